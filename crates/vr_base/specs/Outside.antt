@@ -1,0 +1,25 @@
+-- What a folder holds and what a sink has taken, where they tell it.
+use Rattle.std.specs.Prelude.{◌≡◌, ℕ, ◌≤◌, ◌<◌, List, [], ◌∷◌, length, take, Option, Some, None, option_map, IfSome, bytes_eq, if◌then◌else◌}
+use Rattle.std.specs.Io.KnownBytes.{Appends}
+
+-- the bytes of the first file with the name
+abbrev pub file_of : List ℕ → List (List ℕ × List ℕ) → Option (List ℕ)
+file_of name [] = None
+file_of name (file ∷ files) = if bytes_eq file.0 name then Some file.1 else file_of name files
+
+-- Where the files are told, the named one is there, and these are its first bytes, as many as asked for.
+abbrev pub Holds : Option (List (List ℕ × List ℕ)) → List ℕ → ℕ → List ℕ → Type 0
+Holds files name most bytes = IfSome files (λ fs. option_map (take most) (file_of name fs) ≡ Some bytes)
+
+-- Where the files are told, the named one is not there.
+abbrev pub IsNotThere : Option (List (List ℕ × List ℕ)) → List ℕ → Type 0
+IsNotThere files name = IfSome files (λ fs. file_of name fs ≡ None)
+
+-- Where what was written is told, it grew by a front of the bytes.
+abbrev pub AppendsFront : Option (List ℕ) → Option (List ℕ) → List ℕ → Type 0
+AppendsFront old new bytes = (n : ℕ) × (n ≤ length bytes) × Appends old new (take n bytes)
+
+-- How many bytes a write took: no more than there are, and one at least where there are any.
+pub record Takes (count room : ℕ) : Type 0 where
+  pub within : count ≤ room
+  pub some : 0 < room → 0 < count
