@@ -1,0 +1,4 @@
+pub mod Faults
+pub mod Members
+pub mod Policies
+pub mod PolicyData
