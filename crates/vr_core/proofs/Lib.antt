@@ -1,0 +1,3 @@
+pub mod FileMaps
+pub mod Histories
+pub mod Refusals

@@ -1,0 +1,109 @@
+ghost use Rattle.std.specs.Prelude.{◌≡◌, ◌==◌, find};
+ghost use Rattle.std.specs.Option.{option_copied};
+ghost use Rattle.vr_base.specs.Rights.{masked};
+ghost use Rattle.vr_core.specs.Answers.{Gives};
+ghost use Rattle.vr_core.specs.Machine.{path_named, caller, reaching, permitted, file_at, sized, listed};
+
+use crate::files::Files;
+use std::alloc::Global;
+use vr_base::{Bytes, NoMemory, Path, PathFault, Reply, RightsWord, parse_path};
+use vr_policy_read::{Identity, Pipeline, Policy};
+
+/// The most bytes of a file.
+pub const MOST_FILE: usize = 16_777_216;
+
+/// The path that a call's name stands for.
+pub fn check_name(alloc: Global, name: &[u8]) -> Result<Path, Reply>
+    ensures { Gives (λ path. path) result (path_named name.now) }
+{
+    match parse_path(alloc, name) {
+        Ok(path) => Ok(path),
+        Err(PathFault::OutOfMemory) => Err(Reply::OutOfMemory),
+        Err(fault) => Err(Reply::BadPath { fault }),
+    }
+}
+
+fn find_identity(identities: &[Identity], who: u32) -> Option<&Identity>
+    ensures { option_copied result ≡ find (λ identity. identity.id == who) identities.now }
+{
+    identities.iter().find(|identity| identity.id == who)
+}
+
+/// The identity that calls.
+pub fn check_caller(policy: &Policy, who: u32) -> Result<&Identity, Reply>
+    ensures { Gives (λ identity. identity.now) result (caller policy.now who) }
+{
+    match find_identity(policy.identities.as_slice(), who) {
+        Some(identity) => Ok(identity),
+        None => Err(Reply::Unkeyed),
+    }
+}
+
+/// That the identity has the needed rights on the path.
+pub fn check_rights(identity: &Identity, path: &Path, needed: RightsWord) -> Result<(), Reply>
+    ensures { Gives (λ _. tt) result (permitted identity.now path.now needed) }
+{
+    match identity.grants.word_on(path).missing(needed) {
+        None => Ok(()),
+        Some(right) => match path.copy() {
+            Ok(path) => Err(Reply::Denied { path, right }),
+            Err(NoMemory) => Err(Reply::OutOfMemory),
+        },
+    }
+}
+
+/// The path of a call's name, on which the identity has the needed rights.
+pub fn check_path(
+    alloc: Global,
+    policy: &Policy,
+    who: u32,
+    name: &[u8],
+    needed: u32,
+) -> Result<Path, Reply>
+    ensures { Gives (λ path. path) result (reaching policy.now who name.now (masked needed)) }
+{
+    let path = check_name(alloc, name)?;
+    let identity = check_caller(policy, who)?;
+    check_rights(identity, &path, RightsWord::new(needed))?;
+    Ok(path)
+}
+
+/// The body of the file at the path.
+pub fn check_file<'a>(files: &'a Files, path: &Path) -> Result<&'a Bytes, Reply>
+    ensures { Gives (λ body. body.now) result (file_at files.now path.now) }
+{
+    match files.get(path) {
+        Some(body) => Ok(body),
+        None => match path.copy() {
+            Ok(path) => Err(Reply::NoSuchFile { path }),
+            Err(NoMemory) => Err(Reply::OutOfMemory),
+        },
+    }
+}
+
+/// That a file may have this size.
+pub fn check_size(size: usize) -> Result<(), Reply>
+    ensures { Gives (λ _. tt) result (sized size) }
+{
+    if size > MOST_FILE {
+        Err(Reply::TooLarge { size: size as u64 })
+    } else {
+        Ok(())
+    }
+}
+
+fn find_pipeline(pipelines: &[Pipeline], id: u32) -> Option<&Pipeline>
+    ensures { option_copied result ≡ find (λ pipeline. pipeline.id == id) pipelines.now }
+{
+    pipelines.iter().find(|pipeline| pipeline.id == id)
+}
+
+/// The pipeline with the id.
+pub fn check_listed(policy: &Policy, id: u32) -> Result<&Pipeline, Reply>
+    ensures { Gives (λ pipeline. pipeline.now) result (listed policy.now id) }
+{
+    match find_pipeline(policy.pipelines.as_slice(), id) {
+        Some(pipeline) => Ok(pipeline),
+        None => Err(Reply::NoSuchPipeline { id }),
+    }
+}

@@ -1,0 +1,9 @@
+//! The book: the one history of calls, and the files after it.
+#![tactic(auto)]
+
+mod book;
+mod checks;
+mod files;
+
+pub use book::Book;
+pub use files::Files;
