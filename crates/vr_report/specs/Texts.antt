@@ -1,0 +1,105 @@
+-- The texts of a replay: one line a call, then one line a file.
+use Rattle.std.specs.Prelude.{ℕ, List, [], ◌∷◌, ◌++◌, length, codes, decimal, flat_map, zip, unwrap_or, ◌==◌, if◌then◌else◌}
+use Rattle.std.specs.FinMap.{entries}
+use Rattle.hex.specs.Hex.{encode_lower}
+use Rattle.sha2.specs.Sha256.{sha256}
+use Rattle.vr_base.specs.Rights.{right_name}
+use Rattle.vr_base.specs.declared.names.PathFault.{PathFault}
+use Rattle.vr_base.specs.declared.names.PathFault.TheVariants as faults
+use Rattle.vr_base.specs.declared.calls.Reply.{Reply}
+use Rattle.vr_base.specs.declared.calls.Reply.TheVariants.{Stored, Read, Ended, PolicyHash, NoSuchFile, Denied, NoSuchPipeline, PinMissing, PinMismatch, TooLarge, BadProgram, Trapped, OutOfFuel, BadPath, Unavailable, OutOfMemory, Unkeyed, QuotaReached}
+use Rattle.vr_base.specs.declared.calls.Why.{Why}
+use Rattle.vr_base.specs.declared.calls.Why.TheVariants.{Decode, Invalid, Link}
+use Rattle.vr_core.specs.State.{FileMap}
+use Rattle.vr_core.specs.Machine.{Origin, step}
+use Rattle.vr_report.specs.declared.script.Line.{Line}
+
+-- a space and then the text
+abbrev pub spaced : List ℕ → List ℕ
+spaced text = 32 ∷ text
+
+-- a space and the decimal digits of a number
+abbrev pub number : ℕ → List ℕ
+number n = spaced (decimal n)
+
+-- bytes in hex, of none a dash
+abbrev pub hex_of : List ℕ → List ℕ
+hex_of bytes = if length bytes == 0 then codes "-" else encode_lower bytes
+
+-- a size and the bytes
+abbrev pub sized_bytes : List ℕ → List ℕ
+sized_bytes bytes = number (length bytes) ++ spaced (hex_of bytes)
+
+-- why a program is none
+abbrev pub why_text : Why → List ℕ
+why_text (Decode kind at) = codes " decode" ++ number kind ++ codes " at" ++ number at
+why_text (Invalid part index) = codes " invalid" ++ number part ++ number index
+why_text (Link kind index) = codes " link" ++ number kind ++ number index
+
+-- the number of a name's fault, and the place of a bad byte
+abbrev pub fault_text : PathFault → List ℕ
+fault_text faults.EmptySegment = codes "1"
+fault_text (faults.BadByte at) = codes "2 at" ++ number at
+fault_text faults.DotSegment = codes "3"
+fault_text faults.TooLong = codes "4"
+fault_text faults.OutOfMemory = codes "5"
+
+-- what a reply says
+abbrev pub reply_text : Reply → List ℕ
+reply_text Stored = codes "done"
+reply_text (Read body) = codes "done bytes" ++ sized_bytes body
+reply_text (Ended code out) = codes "done code" ++ number code ++ codes " out" ++ sized_bytes out
+reply_text (PolicyHash digits) = codes "done hash" ++ spaced digits
+reply_text (NoSuchFile path) = codes "no such file" ++ spaced path
+reply_text (Denied path right) = codes "denied" ++ spaced path ++ spaced (unwrap_or (right_name right) [])
+reply_text (NoSuchPipeline id) = codes "no such pipeline" ++ number id
+reply_text (PinMissing path) = codes "pin missing" ++ spaced path
+reply_text (PinMismatch path found) = codes "pin mismatch" ++ spaced path ++ spaced found
+reply_text (TooLarge size) = codes "too large" ++ number size
+reply_text (BadProgram path why) = codes "bad program" ++ spaced path ++ why_text why
+reply_text (Trapped path kind) = codes "trapped" ++ spaced path ++ number kind
+reply_text (OutOfFuel path) = codes "out of fuel" ++ spaced path
+reply_text (BadPath fault) = codes "bad path" ++ spaced (fault_text fault)
+reply_text Unavailable = codes "unavailable"
+reply_text OutOfMemory = codes "out of memory"
+reply_text Unkeyed = codes "unkeyed"
+reply_text (QuotaReached name size) = codes "quota" ++ spaced name ++ number size
+
+-- the line of a call: its line in the script, its identity and the reply
+abbrev pub call_line : ℕ → ℕ → Reply → List ℕ
+call_line line who reply = decimal line ++ number who ++ spaced (reply_text reply) ++ 10 ∷ []
+
+-- the line of a file: its path, its size and its SHA-256
+abbrev pub file_line : List ℕ × List ℕ → List ℕ
+file_line file = codes "file" ++ spaced file.0 ++ number (length file.1) ++ spaced (encode_lower (sha256 file.1)) ++ 10 ∷ []
+
+-- a line a file, in the order of the bytes of their paths
+abbrev pub files_text : FileMap → List ℕ
+files_text files = flat_map file_line (entries files)
+
+-- the first line: the hash of the policy
+abbrev pub policy_line : List ℕ → List ℕ
+policy_line hash = codes "policy" ++ spaced hash ++ 10 ∷ []
+
+-- the machine's replies to the calls of a script, in order
+abbrev pub replies_of : Origin → FileMap → List Line → List Reply
+replies_of origin files [] = []
+replies_of origin files (line ∷ others) = let outcome = step origin files line.who line.call in outcome.0 ∷ replies_of origin outcome.1 others
+
+-- the files that the calls of a script leave
+abbrev pub files_of : Origin → FileMap → List Line → FileMap
+files_of origin files [] = files
+files_of origin files (line ∷ others) = files_of origin (step origin files line.who line.call).1 others
+
+-- the lines of the calls, each with its reply
+abbrev pub call_lines : List Line → List Reply → List ℕ
+call_lines script replies = flat_map (λ call. call_line call.0.line call.0.who call.1) (zip script replies)
+
+-- the lines of a script's calls, from these files on
+abbrev pub script_lines : Origin → FileMap → List Line → List ℕ
+script_lines origin files script = call_lines script (replies_of origin files script)
+
+-- What a replay writes: the policy's hash, a line a call with the machine's reply, and a line a file that is left.
+abbrev pub replay_text : Origin → List Line → List ℕ
+replay_text origin script =
+    policy_line origin.hash ++ script_lines origin origin.opening script ++ files_text (files_of origin origin.opening script)

@@ -1,0 +1,109 @@
+ghost use Rattle.std.specs.Prelude.{◌≡◌, ◌∷◌, ◌<◌, length};
+ghost use Rattle.std.specs.Str.Lines.{lines, strip_carriage_return};
+ghost use Rattle.vr_report.specs.Answers.{Gives};
+ghost use Rattle.vr_report.specs.Script.{line_of, most_script, script_of};
+
+use crate::reading::{LineFault, read_call};
+use std::alloc::{AllocFailed, Global};
+use vr_base::{Call, List, cut_at};
+
+/// The most bytes of a script.
+pub const MOST_SCRIPT: usize = 1_048_576;
+
+/// A call that a script asks for.
+#[derive(Debug, Drop)]
+pub struct Line {
+    /// The line in the script, counted from 1. Lines that ask for nothing count too.
+    pub line: u32,
+    /// The identity that calls.
+    pub who: u32,
+    pub call: Call,
+}
+
+/// The calls of a script, in order.
+pub type Script = List<Line>;
+
+/// Why a text is no script.
+#[derive(Clone, Copy, Debug, PartialEq, Eq)]
+pub enum ScriptFault {
+    /// The first line that is outside the form, counted from 1, or 0 where the text is too long.
+    Line(u32),
+    OutOfMemory,
+}
+
+impl<T: Drop> From<AllocFailed<T>> for ScriptFault {
+    ghost use Rattle.vr_report.specs.declared.script.ScriptFault.TheVariants.{OutOfMemory};
+    ghost use Rattle.std.specs.Prelude.{◌≡◌};
+
+    ghost from_gives = { λ _ e. e ≡ OutOfMemory };
+
+    fn from(_refused: AllocFailed<T>) -> ScriptFault {
+        ScriptFault::OutOfMemory
+    }
+}
+
+/// A part before an LF without the CR at its end.
+fn strip_return(part: &[u8]) -> &[u8]
+    ensures { result.now ≡ strip_carriage_return part.now }
+{
+    part.strip_suffix(b"\r").unwrap_or(part)
+}
+
+/// The first line of a text, and the text behind it.
+#[tactic(auto, using(crate::proofs::Parts::lines_cut))]
+fn cut_line(text: &[u8]) -> (&[u8], &[u8])
+    requires { 0 < length text.now }
+    ensures lines { lines text.now ≡ result.0.now ∷ lines result.1.now }
+    ensures shorter { length result.1.now < length text.now }
+{
+    let (part, rest) = cut_at(text, b'\n');
+    match rest {
+        Some(rest) => (strip_return(part), rest),
+        None => (part, &text[text.len()..]),
+    }
+}
+
+/// The call of the line of this number, where the line isn't passed over.
+fn read_line(alloc: Global, number: u32, text: &[u8]) -> Result<Option<Line>, ScriptFault>
+    ensures { Gives (λ line. line) result (line_of number text.now) }
+{
+    if text.is_empty() || text.starts_with(b"#") {
+        return Ok(None);
+    }
+    match read_call(alloc, text) {
+        Ok((who, call)) => Ok(Some(Line {
+            line: number,
+            who,
+            call,
+        })),
+        Err(LineFault::Form) => Err(ScriptFault::Line(number)),
+        Err(LineFault::OutOfMemory) => Err(ScriptFault::OutOfMemory),
+    }
+}
+
+/// The calls of a script. It has at most 1,048,576 bytes. Each of its lines ends with an LF, which the last may lack, and
+/// a CR before the LF is dropped. Empty lines and lines that begin with `#` are passed over. Another line is words with
+/// one space between each two: `ID read NAME`, `ID write NAME empty`, `ID write NAME text REST` or `ID hash`. The
+/// identity is 0 to 4,294,967,295 in decimal digits without a leading zero, the name has to stand for a path, and the
+/// rest is all that is left of the line, or nothing. Names and bodies are kept as they stand.
+///
+/// The fault is that of the first line in another form.
+pub fn read_script(alloc: Global, bytes: &[u8]) -> Result<Script, ScriptFault>
+    ensures { Gives (λ script. script) result (script_of most_script bytes.now) }
+{
+    if bytes.len() > MOST_SCRIPT {
+        return Err(ScriptFault::Line(0));
+    }
+    let mut calls = Vec::new(alloc);
+    let mut number = 1;
+    let mut left = bytes;
+    while !left.is_empty() {
+        let (text, rest) = cut_line(left);
+        if let Some(line) = read_line(alloc, number, text)? {
+            calls.push(line)?;
+        }
+        number += 1;
+        left = rest;
+    }
+    Ok(List::of(calls))
+}
