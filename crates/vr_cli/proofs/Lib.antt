@@ -1,0 +1,5 @@
+pub mod Clauses
+pub mod Ending
+pub mod Fronts
+pub mod Replays
+pub mod Told

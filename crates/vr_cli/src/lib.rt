@@ -1,0 +1,16 @@
+//! The top calls: what the program does, from the words of its command line to what it writes; and the outside in memory
+//! and as the system has it.
+#![tactic(auto)]
+
+mod commands;
+mod disk;
+mod memory;
+mod reading;
+mod replaying;
+mod status;
+mod words;
+
+pub use commands::command;
+pub use disk::{DiskFolder, StdSink};
+pub use memory::{MemFolder, MemSink};
+pub use status::Status;

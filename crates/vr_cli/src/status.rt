@@ -1,0 +1,76 @@
+ghost use Rattle.std.specs.Prelude.{◌≡◌};
+ghost use Rattle.vr_cli.specs.Statuses.{exit_code};
+
+use std::alloc::{AllocError, Global};
+use vr_base::NoMemory;
+
+/// How a command ended.
+#[derive(Clone, Copy, Debug, PartialEq, Eq)]
+pub enum Status {
+    /// Everything was done and written.
+    Ok,
+    /// No command has these words: the place, counted from 0 behind the program's name, of the first word that none has
+    /// after the words before it, or the number of words where they end too early.
+    Usage { index: u32 },
+    /// The policy is refused: by its reading (stage 1), the number of the rule and the index of the entry.
+    PolicyRefused { stage: u32, rule: u32, index: u32 },
+    /// The first line of the script that stands for no call, counted from 1, and 0 for a script that is too long.
+    ScriptRefused { line: u32 },
+    /// The file that the word at this place names is not there.
+    Absent { word: u32 },
+    /// A file could not be read.
+    ReadFault,
+    /// The text could not be written, or not all of it.
+    WriteFault,
+    /// Memory ran out. A front of the text may have been written.
+    WantOfMemory,
+}
+
+impl From<NoMemory> for Status {
+    ghost use Rattle.std.specs.Prelude.{◌≡◌};
+    ghost use Rattle.vr_cli.specs.declared.status.Status.TheVariants.{WantOfMemory};
+
+    ghost from_gives = { λ _ status. status ≡ WantOfMemory };
+
+    fn from(_refused: NoMemory) -> Status {
+        Status::WantOfMemory
+    }
+}
+
+impl Status {
+    /// The exit status of the program.
+    pub fn code(self) -> u8
+        ensures { result ≡ exit_code self }
+    {
+        match self {
+            Status::Ok => 0,
+            Status::Usage { .. } => 1,
+            Status::PolicyRefused { .. } => 2,
+            Status::ScriptRefused { .. } => 3,
+            Status::Absent { .. } => 4,
+            Status::ReadFault => 5,
+            Status::WriteFault => 6,
+            Status::WantOfMemory => 7,
+        }
+    }
+
+    /// The text that the program prints on standard error, without a line feed, and no text for `Ok`. The words are those
+    /// of the command line: the text of an absent file has its word.
+    pub fn text(self, alloc: Global, words: &[String]) -> Result<String, AllocError> {
+        match self {
+            Status::Ok => Ok(String::new(alloc)),
+            Status::Usage { index } => format!(in alloc; "usage: word {index}"),
+            Status::PolicyRefused { stage, rule, index } => {
+                format!(in alloc; "policy refused: stage {stage} rule {rule} at {index}")
+            }
+            Status::ScriptRefused { line } => format!(in alloc; "script refused: line {line}"),
+            Status::Absent { word } => match words.get(word as usize) {
+                Some(name) => format!(in alloc; "absent: {name}"),
+                None => format!(in alloc; "absent:"),
+            },
+            Status::ReadFault => String::from_str(alloc, "read fault"),
+            Status::WriteFault => String::from_str(alloc, "write fault"),
+            Status::WantOfMemory => String::from_str(alloc, "out of memory"),
+        }
+    }
+}
