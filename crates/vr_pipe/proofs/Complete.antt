@@ -1,0 +1,169 @@
+-- What the grammar reads the reader goes through: it gives the tree of each pipeline that the pieces spell.
+use Rattle.std.proofs.Common.{◌≡◌, ℕ, List, [], ◌∷◌, None, Some, ap, ◌∙◌, refl}
+use Rattle.vr_base.specs.Names.{normalised}
+use Rattle.vr_pipe.specs.declared.trees.Tree.{Tree}
+use Rattle.vr_pipe.specs.declared.trees.Tree.TheVariants.{Program, If, Feed, Then}
+use Rattle.vr_pipe.specs.declared.parsing.Frame.{Frame}
+use Rattle.vr_pipe.specs.declared.parsing.Frame.TheVariants.{Fed, Before, Taken, Other}
+use Rattle.vr_pipe.specs.declared.parsing.Focus.TheVariants.{Place, Ended, Placed, Branch}
+use Rattle.vr_pipe.specs.Trees.{Pipeline, program, test, choice, feed, follows, pipeline}
+use Rattle.vr_pipe.specs.Pieces.{Piece, name, if_word, else_word, bar, semicolon, opening, closing}
+use Rattle.vr_pipe.specs.Grammar.{IsPlace, IsFeed, IsSequence, a_path, an_if, an_else, a_place, a_bar, a_feed, a_trailing, a_semicolon}
+use Rattle.vr_pipe.specs.Machine.{run}
+use Rattle.vr_pipe.proofs.Views.{pipeline_program, pipeline_test, pipeline_choice, pipeline_feed, pipeline_then}
+use Rattle.vr_pipe.proofs.Sound.{IsFresh}
+
+abbrev pub tree_of : Pipeline → Tree
+tree_of (program path) = Program path
+tree_of (test path e) = If path (tree_of e) None
+tree_of (choice path e f) = If path (tree_of e) (Some (tree_of f))
+tree_of (feed p s) = Feed (tree_of p) (tree_of s)
+tree_of (follows s e) = Then (tree_of s) (tree_of e)
+
+pub pipeline-tree_of : (e : Pipeline) → pipeline (tree_of e) ≡ e
+pipeline-tree_of (program path) = pipeline_program path
+pipeline-tree_of (test path e) = pipeline_test path (tree_of e) ∙ ap (test path) (pipeline-tree_of e)
+pipeline-tree_of (choice path e f) = pipeline_choice path (tree_of e) (tree_of f) ∙ ap (λ x. choice path x (pipeline (tree_of f))) (pipeline-tree_of e) ∙ ap (choice path e) (pipeline-tree_of f)
+pipeline-tree_of (feed p s) = pipeline_feed (tree_of p) (tree_of s) ∙ ap (λ x. feed x (pipeline (tree_of s))) (pipeline-tree_of p) ∙ ap (feed p) (pipeline-tree_of s)
+pipeline-tree_of (follows s e) = pipeline_then (tree_of s) (tree_of e) ∙ ap (λ x. follows x (pipeline (tree_of e))) (pipeline-tree_of s) ∙ ap (follows s) (pipeline-tree_of e)
+
+-- no else comes
+abbrev pub EndsPlace : List Piece → Type 0
+EndsPlace (else_word ∷ ps) = ⊥
+EndsPlace ps = Unit {0}
+
+-- a semicolon, a brace or the end comes
+abbrev pub EndsFeed : List Piece → Type 0
+EndsFeed [] = Unit {0}
+EndsFeed (semicolon ∷ ps) = Unit {0}
+EndsFeed (closing ∷ ps) = Unit {0}
+EndsFeed (p ∷ ps) = ⊥
+
+-- a brace or the end comes
+abbrev pub EndsSequence : List Piece → Type 0
+EndsSequence [] = Unit {0}
+EndsSequence (closing ∷ ps) = Unit {0}
+EndsSequence (p ∷ ps) = ⊥
+
+-- a place comes
+abbrev pub BeginsPlace : List Piece → Type 0
+BeginsPlace (name word ∷ ps) = Unit {0}
+BeginsPlace (if_word ∷ ps) = Unit {0}
+BeginsPlace ps = ⊥
+
+pub feed_ends_place : (to : List Piece) → EndsFeed to → EndsPlace to
+feed_ends_place [] h = tt
+feed_ends_place (semicolon ∷ ps) h = tt
+feed_ends_place (closing ∷ ps) h = tt
+feed_ends_place (name word ∷ ps) h = absurd h
+feed_ends_place (if_word ∷ ps) h = absurd h
+feed_ends_place (else_word ∷ ps) h = absurd h
+feed_ends_place (bar ∷ ps) h = absurd h
+feed_ends_place (opening ∷ ps) h = absurd h
+
+pub sequence_ends_feed : (to : List Piece) → EndsSequence to → EndsFeed to
+sequence_ends_feed [] h = tt
+sequence_ends_feed (closing ∷ ps) h = tt
+sequence_ends_feed (semicolon ∷ ps) h = absurd h
+sequence_ends_feed (name word ∷ ps) h = absurd h
+sequence_ends_feed (if_word ∷ ps) h = absurd h
+sequence_ends_feed (else_word ∷ ps) h = absurd h
+sequence_ends_feed (bar ∷ ps) h = absurd h
+sequence_ends_feed (opening ∷ ps) h = absurd h
+
+place_begins : {e : Pipeline} {from to : List Piece} → IsPlace e from to → BeginsPlace from
+place_begins (a_path word) = tt
+place_begins (an_if word h) = tt
+place_begins (an_else word h k) = tt
+
+feed_begins : {e : Pipeline} {from to : List Piece} → IsFeed e from to → BeginsPlace from
+feed_begins (a_place h) = place_begins h
+feed_begins (a_bar h k) = place_begins h
+
+sequence_begins : {e : Pipeline} {from to : List Piece} → IsSequence e from to → BeginsPlace from
+sequence_begins (a_feed h) = feed_begins h
+sequence_begins (a_trailing h) = feed_begins h
+sequence_begins (a_semicolon h k) = feed_begins h
+
+pub branch_ends : (path : List ℕ) (e : Tree) (fs : List Frame) (to : List Piece) → EndsPlace to → run (Branch path e) fs to ≡ run (Placed (If path e None)) fs to
+branch_ends path e fs [] h = refl
+branch_ends path e fs (name word ∷ ps) h = refl
+branch_ends path e fs (if_word ∷ ps) h = refl
+branch_ends path e fs (else_word ∷ ps) h = absurd h
+branch_ends path e fs (bar ∷ ps) h = refl
+branch_ends path e fs (semicolon ∷ ps) h = refl
+branch_ends path e fs (opening ∷ ps) h = refl
+branch_ends path e fs (closing ∷ ps) h = refl
+
+pub fed_ends : (p s : Tree) (fs : List Frame) (to : List Piece) → EndsFeed to → run (Placed s) (Fed p ∷ fs) to ≡ run (Placed (Feed p s)) fs to
+fed_ends p s fs [] h = refl
+fed_ends p s fs (semicolon ∷ ps) h = refl
+fed_ends p s fs (closing ∷ ps) h = refl
+fed_ends p s fs (name word ∷ ps) h = absurd h
+fed_ends p s fs (if_word ∷ ps) h = absurd h
+fed_ends p s fs (else_word ∷ ps) h = absurd h
+fed_ends p s fs (bar ∷ ps) h = absurd h
+fed_ends p s fs (opening ∷ ps) h = absurd h
+
+pub before_ends : (s e : Tree) (fs : List Frame) (to : List Piece) → EndsSequence to → run (Placed e) (Before s ∷ fs) to ≡ run (Placed (Then s e)) fs to
+before_ends s e fs [] h = refl
+before_ends s e fs (closing ∷ ps) h = refl
+before_ends s e fs (semicolon ∷ ps) h = absurd h
+before_ends s e fs (name word ∷ ps) h = absurd h
+before_ends s e fs (if_word ∷ ps) h = absurd h
+before_ends s e fs (else_word ∷ ps) h = absurd h
+before_ends s e fs (bar ∷ ps) h = absurd h
+before_ends s e fs (opening ∷ ps) h = absurd h
+
+pub ended_ends : (s : Tree) (fs : List Frame) (to : List Piece) → EndsSequence to → run (Ended s) fs to ≡ run (Placed s) fs to
+ended_ends s fs [] h = refl
+ended_ends s fs (closing ∷ ps) h = refl
+ended_ends s fs (semicolon ∷ ps) h = absurd h
+ended_ends s fs (name word ∷ ps) h = absurd h
+ended_ends s fs (if_word ∷ ps) h = absurd h
+ended_ends s fs (else_word ∷ ps) h = absurd h
+ended_ends s fs (bar ∷ ps) h = absurd h
+ended_ends s fs (opening ∷ ps) h = absurd h
+
+ended_begins : (s : Tree) (fs : List Frame) (from : List Piece) → BeginsPlace from → run (Ended s) fs from ≡ run Place (Before s ∷ fs) from
+ended_begins s fs [] h = absurd h
+ended_begins s fs (name word ∷ ps) h = refl
+ended_begins s fs (if_word ∷ ps) h = refl
+ended_begins s fs (else_word ∷ ps) h = absurd h
+ended_begins s fs (bar ∷ ps) h = absurd h
+ended_begins s fs (semicolon ∷ ps) h = absurd h
+ended_begins s fs (opening ∷ ps) h = absurd h
+ended_begins s fs (closing ∷ ps) h = absurd h
+
+-- behind frames with nothing fed a semicolon ends the place alone
+semicolon_ends : (s : Tree) (fs : List Frame) (to : List Piece) → IsFresh fs → run (Placed s) fs (semicolon ∷ to) ≡ run (Ended s) fs to
+semicolon_ends s [] to h = refl
+semicolon_ends s (Fed p ∷ fs) to h = absurd h
+semicolon_ends s (Before q ∷ fs) to h = refl
+semicolon_ends s (Taken path ∷ fs) to h = refl
+semicolon_ends s (Other path e ∷ fs) to h = refl
+
+mutual
+  pub place_runs : {e : Pipeline} {from to : List Piece} → IsPlace e from to → EndsPlace to → (fs : List Frame) → run Place fs from ≡ run (Placed (tree_of e)) fs to
+  place_runs (a_path word) ends fs = refl
+  place_runs {to = to} (an_if {e} {inner} word h) ends fs =
+      sequence_runs h tt (Taken (normalised word) ∷ fs) tt ∙ branch_ends (normalised word) (tree_of e) fs to ends
+  place_runs {to = to} (an_else {e} {f} {inner} {other} word h k) ends fs =
+      sequence_runs h tt (Taken (normalised word) ∷ fs) tt ∙ sequence_runs k tt (Other (normalised word) (tree_of e) ∷ fs) tt
+
+  pub feed_runs : {e : Pipeline} {from to : List Piece} → IsFeed e from to → EndsFeed to → (fs : List Frame) → run Place fs from ≡ run (Placed (tree_of e)) fs to
+  feed_runs {to = to} (a_place h) ends fs = place_runs h (feed_ends_place to ends) fs
+  feed_runs {to = to} (a_bar {p} {s} h k) ends fs =
+      place_runs h tt fs ∙ feed_runs k ends (Fed (tree_of p) ∷ fs) ∙ fed_ends (tree_of p) (tree_of s) fs to ends
+
+  pub sequence_runs : {e : Pipeline} {from to : List Piece} → IsSequence e from to → EndsSequence to → (fs : List Frame) → IsFresh fs → run Place fs from ≡ run (Placed (tree_of e)) fs to
+  sequence_runs {to = to} (a_feed h) ends fs fresh = feed_runs h (sequence_ends_feed to ends) fs
+  sequence_runs {e} {from} {to} (a_trailing h) ends fs fresh =
+      feed_runs h tt fs ∙ semicolon_ends (tree_of e) fs to fresh ∙ ended_ends (tree_of e) fs to ends
+  sequence_runs {to = to} (a_semicolon {s} {e} {from} {next} h k) ends fs fresh =
+      feed_runs h tt fs ∙ semicolon_ends (tree_of s) fs next fresh ∙ ended_begins (tree_of s) fs next (sequence_begins k)
+      ∙ sequence_runs k ends (Before (tree_of s) ∷ fs) tt ∙ before_ends (tree_of s) (tree_of e) fs to ends
+
+-- the reader gives the tree of what the pieces spell
+pub run_complete : {e : Pipeline} {ps : List Piece} → IsSequence e ps [] → run Place [] ps ≡ Some (tree_of e)
+run_complete h = sequence_runs h tt [] tt

@@ -1,0 +1,13 @@
+pub mod Views
+pub mod Words
+pub mod Sound
+pub mod Complete
+pub mod Viable
+pub mod Counts
+pub mod Counted
+pub mod Readings
+pub mod Exact
+pub mod Lexing
+pub mod Prints
+pub mod Joins
+pub mod Outcomes
