@@ -1,0 +1,9 @@
+pub mod Code
+pub mod Forms
+pub mod Grammar
+pub mod Imports
+pub mod Limits
+pub mod Modules
+pub mod Numbers
+pub mod Opcodes
+pub mod Rest

@@ -1,0 +1,14 @@
+pub mod Basics
+pub mod CodeAgain
+pub mod CodeLaws
+pub mod Groups
+pub mod Laws
+pub mod LimitLaws
+pub mod Loops
+pub mod ModuleLaws
+pub mod PartLaws
+pub mod Passes
+pub mod SectionLaws
+pub mod Sequences
+pub mod Texts
+pub mod TypeLaws

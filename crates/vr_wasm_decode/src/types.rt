@@ -1,0 +1,206 @@
+//! Names, and the types of values, functions, tables, memories and globals.
+
+ghost use Rattle.std.specs.Prelude.{◌≡◌, ◌↔◌, IsTrue, true};
+ghost use Rattle.std.specs.Str.{is_utf8 as is_text};
+ghost use Rattle.vr_wasm_ast.specs.Rest.{Rest};
+ghost use Rattle.vr_wasm_decode.specs.Reader.{Gives, GivesBytes};
+ghost use Rattle.vr_wasm_decode.specs.Reading.{bytes_of as bytes_at, data_bytes as data_bytes_at, name as name_at, val_type_of as val_type_of_at, val_type as val_type_at, func_type as func_type_at, limits as limits_at, table_type as table_type_at, flag as flag_at, global_type as global_type_at, block_type as block_type_at};
+
+use crate::fault::{DecodeKind, ReadError};
+use crate::numbers::{byte, expect, fault, u32};
+use crate::vectors::{Part, vector};
+use std::alloc::Global;
+use vr_wasm_ast::{Cursor, FuncType, GlobalType, Items, Limits, ValType};
+
+/// So many bytes. They are items one by one, so where they pass the end, the fault is at the end.
+fn bytes<'a>(cursor: &mut Cursor<'a>, count: u32) -> Result<&'a [u8], ReadError>
+    ensures { GivesBytes result cursor.new (bytes_at count cursor.old) }
+{
+    let stop = cursor.stop();
+    match cursor.take(count) {
+        Some(bytes) => Ok(bytes.as_slice()),
+        None => Err(fault(DecodeKind::SectionSize, stop)),
+    }
+}
+
+/// A count, and so many bytes.
+#[tactic(auto, unfolding(crate::specs::Reading::data_bytes))]
+pub fn data_bytes(alloc: Global, cursor: &mut Cursor<'_>) -> Result<Items<u8>, ReadError>
+    ensures { Gives result cursor.new (data_bytes_at cursor.old) }
+{
+    let count = u32(cursor)?;
+    let data = bytes(cursor, count)?;
+    Ok(Items::from_slice(alloc, data)?)
+}
+
+fn is_utf8(bytes: &[u8]) -> bool
+    ensures { result ≡ is_text bytes.now }
+{
+    str::from_utf8(bytes).is_ok()
+}
+
+/// The bytes of a name.
+#[tactic(auto, unfolding(crate::specs::Reading::name))]
+pub fn text<'a>(cursor: &mut Cursor<'a>) -> Result<&'a [u8], ReadError>
+    ensures { GivesBytes result cursor.new (name_at cursor.old) }
+{
+    let count = u32(cursor)?;
+    let at = cursor.place();
+    let text = bytes(cursor, count)?;
+    if is_utf8(text) {
+        Ok(text)
+    } else {
+        Err(fault(DecodeKind::Utf8, at))
+    }
+}
+
+/// A name.
+pub fn name(alloc: Global, cursor: &mut Cursor<'_>) -> Result<Items<u8>, ReadError>
+    ensures { Gives result cursor.new (name_at cursor.old) }
+{
+    let text = text(cursor)?;
+    Ok(Items::from_slice(alloc, text)?)
+}
+
+/// The type that a byte stands for, which was at this offset.
+fn val_type_of(byte: u8, at: u32) -> Result<ValType, ReadError>
+    ensures { (before : Rest) → Gives result before (val_type_of_at byte at before) }
+{
+    match byte {
+        0x7f => Ok(ValType::I32),
+        0x7e => Ok(ValType::I64),
+        0x7c..=0x7d => Err(fault(DecodeKind::Float, at)),
+        _ => Err(fault(DecodeKind::BadByte, at)),
+    }
+}
+
+/// The type of a value.
+#[tactic(auto, unfolding(crate::specs::Reading::val_type))]
+pub fn val_type(cursor: &mut Cursor<'_>) -> Result<ValType, ReadError>
+    ensures { Gives result cursor.new (val_type_at cursor.old) }
+{
+    let at = cursor.place();
+    let byte = byte(cursor)?;
+    val_type_of(byte, at)
+}
+
+/// The type of a block: of its result, if it has one.
+#[tactic(auto, unfolding(crate::specs::Reading::block_type))]
+pub fn block_type(cursor: &mut Cursor<'_>) -> Result<Option<ValType>, ReadError>
+    ensures { Gives result cursor.new (block_type_at cursor.old) }
+{
+    let at = cursor.place();
+    let byte = byte(cursor)?;
+    if byte == 0x40 {
+        return Ok(None);
+    }
+    Ok(Some(val_type_of(byte, at)?))
+}
+
+impl Part for ValType {
+    type Item = ValType;
+
+    ghost reading = { val_type_at };
+
+    fn read(_alloc: Global, cursor: &mut Cursor<'_>) -> Result<ValType, ReadError> {
+        val_type(cursor)
+    }
+}
+
+/// How many parameters a function may have.
+const MOST_PARAMS: u32 = 1_024;
+
+/// How many results a function may have.
+const MOST_RESULTS: u32 = 1;
+
+impl Part for FuncType {
+    type Item = FuncType;
+
+    ghost reading = { func_type_at };
+
+    #[tactic(auto, unfolding(crate::specs::Reading::func_type))]
+    fn read(alloc: Global, cursor: &mut Cursor<'_>) -> Result<FuncType, ReadError> {
+        expect(cursor, 0x60)?;
+        let params = vector::<ValType>(alloc, cursor, MOST_PARAMS)?;
+        let results = vector::<ValType>(alloc, cursor, MOST_RESULTS)?;
+        Ok(FuncType { params, results })
+    }
+}
+
+/// The limits of a table or a memory.
+#[tactic(auto, unfolding(crate::specs::Reading::limits))]
+pub fn limits(cursor: &mut Cursor<'_>) -> Result<Limits, ReadError>
+    ensures { Gives result cursor.new (limits_at cursor.old) }
+{
+    let at = cursor.place();
+    match byte(cursor)? {
+        0x00 => {
+            let min = u32(cursor)?;
+            Ok(Limits { min, max: None })
+        }
+        0x01 => {
+            let min = u32(cursor)?;
+            let max = u32(cursor)?;
+            Ok(Limits {
+                min,
+                max: Some(max),
+            })
+        }
+        _ => Err(fault(DecodeKind::BadByte, at)),
+    }
+}
+
+impl Part for Limits {
+    type Item = Limits;
+
+    ghost reading = { limits_at };
+
+    fn read(_alloc: Global, cursor: &mut Cursor<'_>) -> Result<Limits, ReadError> {
+        limits(cursor)
+    }
+}
+
+/// The type of a table: of functions, and its limits.
+#[tactic(auto, unfolding(crate::specs::Reading::table_type))]
+pub fn table_type(cursor: &mut Cursor<'_>) -> Result<Limits, ReadError>
+    ensures { Gives result cursor.new (table_type_at cursor.old) }
+{
+    expect(cursor, 0x70)?;
+    limits(cursor)
+}
+
+/// A table, which the module has by its limits alone.
+pub struct Table;
+
+impl Part for Table {
+    type Item = Limits;
+
+    ghost reading = { table_type_at };
+
+    fn read(_alloc: Global, cursor: &mut Cursor<'_>) -> Result<Limits, ReadError> {
+        table_type(cursor)
+    }
+}
+
+/// Whether a global may be set.
+#[tactic(auto, unfolding(crate::specs::Reading::flag))]
+fn flag(cursor: &mut Cursor<'_>) -> Result<bool, ReadError>
+    ensures { Gives result cursor.new (flag_at cursor.old) }
+{
+    let at = cursor.place();
+    match byte(cursor)? {
+        0x00 => Ok(false),
+        0x01 => Ok(true),
+        _ => Err(fault(DecodeKind::BadByte, at)),
+    }
+}
+
+/// The type of a global.
+#[tactic(auto, unfolding(crate::specs::Reading::global_type))]
+pub fn global_type(cursor: &mut Cursor<'_>) -> Result<GlobalType, ReadError>
+    ensures { Gives result cursor.new (global_type_at cursor.old) }
+{
+    let value = val_type(cursor)?;
+    let variable = flag(cursor)?;
+    Ok(GlobalType { value, variable })
+}
