@@ -1,5 +1,5 @@
--- The exit status of each status.
-use Rattle.std.specs.Prelude.{ℕ}
+-- The exit status and the text of each status.
+use Rattle.std.specs.Prelude.{ℕ, List, [], ◌++◌, codes, decimal, slice_get, unwrap_or}
 use Rattle.vr_cli.specs.declared.status.Status.{Status}
 use Rattle.vr_cli.specs.declared.status.Status.TheVariants as statuses
 
@@ -12,3 +12,15 @@ exit_code (statuses.Absent word) = 4
 exit_code statuses.ReadFault = 5
 exit_code statuses.WriteFault = 6
 exit_code statuses.WantOfMemory = 7
+
+-- the text on standard error, over the words of the command line
+abbrev pub status_text : List (List ℕ) → Status → List ℕ
+status_text words statuses.Ok = []
+status_text words (statuses.Usage index) = codes "usage: word " ++ decimal index
+status_text words (statuses.PolicyRefused stage rule index) =
+    codes "policy refused: stage " ++ (decimal stage ++ (codes " rule " ++ (decimal rule ++ (codes " at " ++ decimal index))))
+status_text words (statuses.ScriptRefused line) = codes "script refused: line " ++ decimal line
+status_text words (statuses.Absent word) = codes "absent: " ++ unwrap_or (slice_get words word) []
+status_text words statuses.ReadFault = codes "read fault"
+status_text words statuses.WriteFault = codes "write fault"
+status_text words statuses.WantOfMemory = codes "out of memory"

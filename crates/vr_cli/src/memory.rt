@@ -1,6 +1,6 @@
-ghost use Rattle.std.specs.Prelude.{◌≡◌, map, option_map};
+ghost use Rattle.std.specs.Prelude.{◌≡◌, map, option_map, IfOk};
 ghost use Rattle.vr_base.specs.Outside.{file_of};
-ghost use Rattle.vr_cli.specs.Memory.{named};
+ghost use Rattle.vr_cli.specs.Memory.{named, IsUnused};
 
 use std::alloc::Global;
 use vr_base::{Bytes, Failed, Folder, FolderFault, NoMemory, Sink};
@@ -25,7 +25,9 @@ pub struct MemFolder {
 impl MemFolder {
     /// A folder of these files. The reads fail whose numbers, counted from 0, are listed. Of two files with one name the
     /// first counts.
-    pub fn new(files: Vec<(String, Bytes)>, failing: Vec<u64>) -> MemFolder {
+    pub fn new(files: Vec<(String, Bytes)>, failing: Vec<u64>) -> MemFolder
+        ensures { result ≡ record { files = files; failing = failing; calls = 0; faults = 0; absences = 0 } }
+    {
         MemFolder {
             files,
             failing,
@@ -88,7 +90,9 @@ pub struct MemSink {
 impl MemSink {
     /// A sink with room for so many bytes, which is made now. The writes fail whose numbers, counted from 0, are listed,
     /// and so does a write of something where no room is left. Else a write takes what fits.
-    pub fn new(alloc: Global, room: usize, failing: Vec<u64>) -> Result<MemSink, NoMemory> {
+    pub fn new(alloc: Global, room: usize, failing: Vec<u64>) -> Result<MemSink, NoMemory>
+        ensures { IfOk result (λ sink. IsUnused room failing.items sink) }
+    {
         Ok(MemSink {
             bytes: Vec::with_capacity(alloc, room)?,
             room,
@@ -99,7 +103,9 @@ impl MemSink {
     }
 
     /// What was written.
-    pub fn written(&self) -> &[u8] {
+    pub fn written(&self) -> &[u8]
+        ensures { result.now ≡ self.now.bytes.items }
+    {
         self.bytes.as_slice()
     }
 

@@ -1,5 +1,5 @@
-ghost use Rattle.std.specs.Prelude.{◌≡◌};
-ghost use Rattle.vr_cli.specs.Statuses.{exit_code};
+ghost use Rattle.std.specs.Prelude.{◌≡◌, [], map, string_bytes, slice_get, unwrap_or, IfOk};
+ghost use Rattle.vr_cli.specs.Statuses.{exit_code, status_text};
 
 use std::alloc::{AllocError, Global};
 use vr_base::NoMemory;
@@ -37,6 +37,17 @@ impl From<NoMemory> for Status {
     }
 }
 
+/// The word at this place, or no text where there is none.
+#[tactic(auto, using(crate::proofs::Mapped::get_mapped))]
+fn word_at(words: &[String], at: u32) -> &str
+    ensures { result.now ≡ unwrap_or (slice_get (map string_bytes words.now) at) [] }
+{
+    match words.get(at as usize) {
+        Some(word) => word.as_str(),
+        None => "",
+    }
+}
+
 impl Status {
     /// The exit status of the program.
     pub fn code(self) -> u8
@@ -56,7 +67,9 @@ impl Status {
 
     /// The text that the program prints on standard error, without a line feed, and no text for `Ok`. The words are those
     /// of the command line: the text of an absent file has its word.
-    pub fn text(self, alloc: Global, words: &[String]) -> Result<String, AllocError> {
+    pub fn text(self, alloc: Global, words: &[String]) -> Result<String, AllocError>
+        ensures { IfOk result (λ text. string_bytes text ≡ status_text (map string_bytes words.now) self) }
+    {
         match self {
             Status::Ok => Ok(String::new(alloc)),
             Status::Usage { index } => format!(in alloc; "usage: word {index}"),
@@ -64,10 +77,10 @@ impl Status {
                 format!(in alloc; "policy refused: stage {stage} rule {rule} at {index}")
             }
             Status::ScriptRefused { line } => format!(in alloc; "script refused: line {line}"),
-            Status::Absent { word } => match words.get(word as usize) {
-                Some(name) => format!(in alloc; "absent: {name}"),
-                None => format!(in alloc; "absent:"),
-            },
+            Status::Absent { word } => {
+                let name = word_at(words, word);
+                format!(in alloc; "absent: {name}")
+            }
             Status::ReadFault => String::from_str(alloc, "read fault"),
             Status::WriteFault => String::from_str(alloc, "write fault"),
             Status::WantOfMemory => String::from_str(alloc, "out of memory"),
