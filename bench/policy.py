@@ -1,6 +1,6 @@
 """Times `vr replay` of an empty script under large policies; what policy.sh calls."""
-import json, os, sys, tempfile
-from timing import best
+import json, os, sys
+from timing import replayed
 
 program, runs = os.path.abspath(sys.argv[1]), int(sys.argv[2])
 
@@ -13,15 +13,10 @@ def policy(identities, size):
     return json.dumps({"identities": [{"id": k, "file_rights": grants} for k in range(identities)]})
 
 
-with tempfile.TemporaryDirectory() as folder:
-    where = lambda name: os.path.join(folder, name)
-    open(where("script.txt"), "w").close()
-    took = {}
-    for identities in (100, 1000):
-        text = policy(identities, 4150 * identities)
-        assert len(text) <= 4194304
-        with open(where("policy.json"), "w") as f:
-            f.write(text)
-        took[identities] = best(program, ["replay", where("policy.json"), where("script.txt")], runs)
-        print(f"{len(text):,} bytes: {took[identities] * 1000:.1f} ms, {len(text) / took[identities] / 1e6:.1f} MB a second")
-    print(f"ten times the bytes take {took[1000] / took[100]:.1f} times as long")
+took = {}
+for identities in (100, 1000):
+    text = policy(identities, 4150 * identities)
+    assert len(text) <= 4194304
+    took[identities] = replayed(program, text, "", runs)
+    print(f"{len(text):,} bytes: {took[identities] * 1000:.1f} ms, {len(text) / took[identities] / 1e6:.1f} MB a second")
+print(f"ten times the bytes take {took[1000] / took[100]:.1f} times as long")

@@ -1,6 +1,6 @@
 """Times `vr replay` over scripts of two sizes; what replay.sh calls."""
-import json, os, random, sys, tempfile
-from timing import best
+import json, os, random, sys
+from timing import replayed
 
 program, runs = os.path.abspath(sys.argv[1]), int(sys.argv[2])
 FILES = 200
@@ -24,16 +24,10 @@ def script(lines, seed):
     return "\n".join(made[:lines]) + "\n"
 
 
-with tempfile.TemporaryDirectory() as folder:
-    where = lambda name: os.path.join(folder, name)
-    with open(where("policy.json"), "w") as f:
-        json.dump(policy(), f)
-    took = {}
-    for lines in (2000, 20000):
-        text = script(lines, seed=lines)
-        assert len(text) <= 1048576
-        with open(where("script.txt"), "w") as f:
-            f.write(text)
-        took[lines] = best(program, ["replay", where("policy.json"), where("script.txt")], runs)
-        print(f"{lines} lines ({len(text)} bytes): {took[lines] * 1000:.1f} ms, {lines / took[lines]:,.0f} lines a second")
-    print(f"ten times the lines take {took[20000] / took[2000]:.1f} times as long")
+took = {}
+for lines in (2000, 20000):
+    text = script(lines, seed=lines)
+    assert len(text) <= 1048576
+    took[lines] = replayed(program, json.dumps(policy()), text, runs)
+    print(f"{lines} lines ({len(text)} bytes): {took[lines] * 1000:.1f} ms, {lines / took[lines]:,.0f} lines a second")
+print(f"ten times the lines take {took[20000] / took[2000]:.1f} times as long")

@@ -1,5 +1,5 @@
 """What the benches share: the least processor time, in seconds, of several runs of the built program."""
-import resource, subprocess, sys
+import os, resource, subprocess, sys, tempfile
 
 
 def spent():
@@ -16,3 +16,13 @@ def best(program, words, runs):
         if done.returncode:
             sys.exit(f"{words}: status {done.returncode}")
     return min(times)
+
+
+def replayed(program, policy, script, runs):
+    """The time of `vr replay` over files with these texts."""
+    with tempfile.TemporaryDirectory() as folder:
+        files = {os.path.join(folder, "policy.json"): policy, os.path.join(folder, "script.txt"): script}
+        for name, text in files.items():
+            with open(name, "w") as f:
+                f.write(text)
+        return best(program, ["replay", *files], runs)
