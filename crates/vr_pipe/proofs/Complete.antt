@@ -1,8 +1,9 @@
 -- What the grammar reads the reader goes through: it gives the tree of each pipeline that the pieces spell.
-use Rattle.std.proofs.Common.{◌≡◌, ℕ, List, [], ◌∷◌, None, Some, ap, ◌∙◌, refl}
+use Rattle.std.proofs.Common.{◌≡◌, ℕ, List, [], ◌∷◌, None, Some, ap, sym, ◌∙◌, subst, refl}
 use Rattle.vr_base.specs.Names.{normalised}
-use Rattle.vr_pipe.specs.declared.trees.Tree.{Tree}
-use Rattle.vr_pipe.specs.declared.trees.Tree.TheVariants.{Program, If, Feed, Then}
+use Rattle.vr_pipe.specs.declared.trees.Tree.{Tree, roll-Tree, ind-Tree, map-Tree}
+use Rattle.vr_pipe.specs.declared.trees.Tree.TheOpen.{Tree-F}
+use Rattle.vr_pipe.specs.declared.trees.Tree.TheVariants.{Program, If, Feed, Then, rolls-Program, rolls-If, rolls-Feed, rolls-Then}
 use Rattle.vr_pipe.specs.declared.parsing.Frame.{Frame}
 use Rattle.vr_pipe.specs.declared.parsing.Frame.TheVariants.{Fed, Before, Taken, Other}
 use Rattle.vr_pipe.specs.declared.parsing.Focus.TheVariants.{Place, Ended, Placed, Branch}
@@ -26,6 +27,24 @@ pipeline-tree_of (test path e) = pipeline_test path (tree_of e) ∙ ap (test pat
 pipeline-tree_of (choice path e f) = pipeline_choice path (tree_of e) (tree_of f) ∙ ap (λ x. choice path x (pipeline (tree_of f))) (pipeline-tree_of e) ∙ ap (choice path e) (pipeline-tree_of f)
 pipeline-tree_of (feed p s) = pipeline_feed (tree_of p) (tree_of s) ∙ ap (λ x. feed x (pipeline (tree_of s))) (pipeline-tree_of p) ∙ ap (feed p) (pipeline-tree_of s)
 pipeline-tree_of (follows s e) = pipeline_then (tree_of s) (tree_of e) ∙ ap (λ x. follows x (pipeline (tree_of e))) (pipeline-tree_of s) ∙ ap (follows s) (pipeline-tree_of e)
+
+-- the tree of what a tree is seen as is that tree
+abbrev IsSame : Tree → Type 0
+IsSame t = tree_of (pipeline t) ≡ t
+
+-- one level of a tree, with a proof beside each part
+same_level : (x : Tree-F ((t : Tree) × IsSame t)) → IsSame (roll-Tree (map-Tree ((t : Tree) × IsSame t) Tree (λ e. e.0) x))
+same_level (Tree-F.Program path) = subst IsSame (sym (rolls-Program path)) (ap tree_of (pipeline_program path))
+same_level (Tree-F.If path (e, h) None) = subst IsSame (sym (rolls-If path e None)) (ap tree_of (pipeline_test path e) ∙ ap (λ x. If path x None) h)
+same_level (Tree-F.If path (e, h) (Some (f, k))) =
+    subst IsSame (sym (rolls-If path e (Some f))) (ap tree_of (pipeline_choice path e f) ∙ ap (λ x. If path x (Some (tree_of (pipeline f)))) h ∙ ap (λ x. If path e (Some x)) k)
+same_level (Tree-F.Feed (p, h) (s, k)) =
+    subst IsSame (sym (rolls-Feed p s)) (ap tree_of (pipeline_feed p s) ∙ ap (λ x. Feed x (tree_of (pipeline s))) h ∙ ap (Feed p) k)
+same_level (Tree-F.Then (s, h) (e, k)) =
+    subst IsSame (sym (rolls-Then s e)) (ap tree_of (pipeline_then s e) ∙ ap (λ x. Then x (tree_of (pipeline e))) h ∙ ap (Then s) k)
+
+pub tree_of-pipeline : (t : Tree) → tree_of (pipeline t) ≡ t
+tree_of-pipeline = ind-Tree IsSame (λ x y is. subst (λ z. IsSame (roll-Tree z)) is (same_level y))
 
 -- no else comes
 abbrev pub EndsPlace : List Piece → Type 0

@@ -10,9 +10,9 @@ use Rattle.vr_pipe.specs.Pieces.{Piece, pieces, pieces_at, programs_in, tests_in
 use Rattle.vr_pipe.specs.Grammar.{IsSequence, Spells}
 use Rattle.vr_pipe.specs.Faults.{HasFault, IsWithin, Refuses}
 use Rattle.vr_pipe.specs.Machine.{Found, read_text, ◌>>=◌}
-use Rattle.vr_pipe.specs.Pipes.{KeepsPipe}
+use Rattle.vr_pipe.specs.Pipes.{printed, IsPipeline, KeepsPipe}
 use Rattle.vr_pipe.specs.Answers.{Fails}
-use Rattle.vr_pipe.proofs.Complete.{pipeline-tree_of}
+use Rattle.vr_pipe.proofs.Complete.{tree_of, pipeline-tree_of, tree_of-pipeline}
 use Rattle.vr_pipe.proofs.Counts.{sequence_counts, depth_below_tests}
 use Rattle.vr_pipe.proofs.Readings.{Means, Given, all_means}
 use Rattle.vr_pipe.proofs.Exact.{fault_read, spelled_read}
@@ -92,6 +92,12 @@ one_fault text f g h k = let a = fault_gives text f h in let b = fault_gives tex
 
 pub not_both : (text : List ℕ) (e : Pipeline) (f : PipeFault) → Spells text e → HasFault text f → ⊥
 not_both text e f h k = let a = spelled_gives text e h in let b = fault_gives text f k in cc
+
+pub one_print : (d e : Pipeline) → IsPipeline d → IsPipeline e → printed d ≡ printed e → d ≡ e
+one_print d e h k same = let P : List ℕ → Type 0 = λ text. Spells text d in one_pipeline (printed e) d e (subst P same h) k
+
+pub one_tree : (s t : Tree) → pipeline s ≡ pipeline t → s ≡ t
+one_tree s t same = sym (tree_of-pipeline s) ∙ ap tree_of same ∙ tree_of-pipeline t
 
 -- a fault of the first step is that of the whole
 pub fails_first : {A B : Type 0} (e : PipeFault) (r : Result A PipeFault) (f : A → Result B PipeFault) → Fails e r → Fails e (r >>= f)

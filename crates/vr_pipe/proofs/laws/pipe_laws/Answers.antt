@@ -1,4 +1,4 @@
-use Rattle.vr_pipe.proofs.Outcomes.{each_text, one_pipeline, one_fault, not_both, programs_in_order, tests_in_order}
+use Rattle.vr_pipe.proofs.Outcomes.{each_text, one_pipeline, one_fault, not_both, programs_in_order, tests_in_order, one_tree, one_print}
 use Rattle.vr_pipe.proofs.laws.pipe_laws.Goals as goal
 
 pub returns-clause-each : goal.returns-clause-each
@@ -18,3 +18,9 @@ returns-clause-programs c = programs_in_order
 
 pub returns-clause-tests : goal.returns-clause-tests
 returns-clause-tests c = tests_in_order
+
+pub returns-clause-one_tree : goal.returns-clause-one_tree
+returns-clause-one_tree c = one_tree
+
+pub returns-clause-one_print : goal.returns-clause-one_print
+returns-clause-one_print c = one_print
