@@ -212,6 +212,21 @@ ends_false fine wanted a e r = ((λ h. let never : ⊥ = cc (h, e) in absurd nev
 pub bare_view : (s : Shape) (known : List (Option ValType)) (o fine : Bool) → s ≡ shape (reverse known) o → (IsTrue fine ↔ (known ≡ [])) → IsTrue fine ↔ Fits s []
 bare_view s known o fine e w = let P : Shape → Type 0 = λ x. IsTrue fine ↔ Fits x [] in subst P (sym e) (bare_iff known o fine w)
 
+no_end : (xs : List (Option ValType)) (k : Option ValType) → xs ++ k ∷ [] ≡ [] → ⊥
+no_end [] k e = cc
+no_end (x ∷ xs) k e = cc
+
+-- where others may lie below, any operands may stand exactly where none is known
+pub free_view : (s : Shape) (known : List (Option ValType)) (o none : Bool) → s ≡ shape (reverse known) o → o ≡ true → (IsTrue none ↔ (known ≡ [])) → IsTrue none ↔ (s ≡ shape [] true)
+free_view s [] o none e t w = (λ h. e ∙ ap (λ (b : Bool). shape [] b) t, λ q. w.1 refl)
+free_view s (k ∷ ks) o none e t w = (
+  (λ h. let never : ⊥ = cc (w.0 h) in absurd never),
+  (λ q.
+      let same : shape (reverse (k ∷ ks)) o ≡ shape [] true = sym e ∙ q in
+      let empty : reverse (k ∷ ks) ≡ [] = cc in
+      absurd (no_end (reverse ks) k (sym (reverse_onto ks k []) ∙ empty))),
+)
+
 pub results_slice : (o : Option ValType) (xs : List ValType) → MatchOption o (xs ≡ []) (λ x. xs ≡ x ∷ []) → reverse xs ≡ result_list o
 results_slice None xs e = ap reverse e
 results_slice (Some k) xs e = ap reverse e

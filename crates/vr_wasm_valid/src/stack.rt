@@ -102,7 +102,7 @@ impl Stack {
 
     /// Whether nothing is known, and any operands may stand.
     fn is_free(&self) -> bool
-        ensures { IsTrue result → self.now ≡ shape [] true }
+        ensures { IsTrue result ↔ (self.now ≡ shape [] true) }
     {
         self.open_below && self.known.is_empty()
     }

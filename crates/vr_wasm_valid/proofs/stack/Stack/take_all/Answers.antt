@@ -14,7 +14,7 @@ returns-then-is_free c =
     let n = c.saturating_sub-unknown.result in
     let wanted = c.args.wanted.now in
     let low : n ≤ length wanted = omega arith in
-    takes_split (take n wanted) (take (length wanted - n) (drop n wanted)) wanted true c.args.self.now c.take_each.new.self c.take_each.new.self (cut_in_two wanted n low) c.if-not-take_each.ensures (free_takes (reverse (take n wanted)) c.take_each.new.self (c.if-is_free.ensures refl))
+    takes_split (take n wanted) (take (length wanted - n) (drop n wanted)) wanted true c.args.self.now c.take_each.new.self c.take_each.new.self (cut_in_two wanted n low) c.if-not-take_each.ensures (free_takes (reverse (take n wanted)) c.take_each.new.self (c.if-is_free.ensures.0 refl))
 
 pub returns : goal.returns
 returns c =
