@@ -397,7 +397,7 @@ reading bytes =
     if starts_with nat_eq bytes header then sections (length bytes) 0 empty (rest 8 (drop 8 bytes))
     else Err (fault Magic 0)
 
--- What was answered is what reading gives, unless memory ran out.
+-- What was answered is what reading gives, unless memory ran out, which is told at offset 0.
 abbrev pub Answers : Result Module DecodeFault → Result Module DecodeFault → Type 0
 Answers (Ok m) read = read ≡ Ok m
-Answers (Err e) read = (e.kind ≡ OutOfMemory → ⊥) → read ≡ Err e
+Answers (Err e) read = (e ≡ fault OutOfMemory 0 → ⊥) → read ≡ Err e
