@@ -53,18 +53,18 @@ fn imported_function(import: &Import) -> Option<u32>
 }
 
 /// How many functions a module imports.
-fn imported(module: &Module) -> usize
-    ensures { result ≡ imported_of module.now }
+fn imported(so_far: &Module) -> usize
+    ensures { result ≡ imported_of so_far.now }
 {
-    let imports = module.imports.as_slice();
+    let imports = so_far.imports.as_slice();
     imports.iter().filter_map(imported_function).count()
 }
 
 /// How many functions of its own a module with these imports may have.
-fn most_functions(module: &Module) -> u32
-    ensures { result ≡ 65536 - imported_of module.now }
+fn most_functions(so_far: &Module) -> u32
+    ensures { result ≡ 65536 - imported_of so_far.now }
 {
-    (MOST_ITEMS as usize).saturating_sub(imported(module)) as u32
+    (MOST_ITEMS as usize).saturating_sub(imported(so_far)) as u32
 }
 
 /// The code of each function, as many as there are functions.
