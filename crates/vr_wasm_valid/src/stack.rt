@@ -261,8 +261,8 @@ impl Stack {
     }
 
     /// Whether the operands may be this result and no others.
-    pub fn ends_with(&mut self, wanted: Option<ValType>) -> bool
-        ensures { IsTrue result ↔ Fits self.old (result_list wanted) }
+    pub fn ends_with(mut self, wanted: Option<ValType>) -> bool
+        ensures { IsTrue result ↔ Fits self (result_list wanted) }
     {
         self.ends_as(wanted.as_slice())
     }
