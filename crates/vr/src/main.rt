@@ -1,6 +1,9 @@
 //! The program `vr`: it replays scripts of calls under a policy, and tells a policy's hash.
 #![tactic(auto)]
 
+ghost use Rattle.std.specs.Prelude.{◌≡◌, ◌⊎◌, Err};
+ghost use Rattle.vr_cli.specs.declared.status.Status.{Status};
+
 use std::alloc::AllocError;
 use std::env;
 use std::io::ErrorKind;
@@ -8,7 +11,9 @@ use std::process::ExitCode;
 use vr_cli::{DiskFolder, Status, StdSink, command};
 
 /// The words behind the program's name. A command line that isn't text is no command's.
-fn words(rt: &HostRuntime) -> Result<Vec<String>, Status> {
+fn words(rt: &HostRuntime) -> Result<Vec<String>, Status>
+    ensures { (status : Status) → result ≡ Err status → (status ≡ Status.Usage 0) ⊎ (status ≡ Status.WantOfMemory) }
+{
     let mut words = Vec::new(rt.alloc());
     match env::args(rt) {
         Ok(args) => {
