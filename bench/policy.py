@@ -1,22 +1,61 @@
-"""Times `vr replay` of an empty script under large policies; what policy.sh calls."""
-import json, os, sys
-from timing import replayed
+"""Times `vr check` of large policies; what policy.sh calls. Each policy is made by a process of its own, so that the memory
+of the generator doesn't count as the program's."""
+import json, os, subprocess, sys, tempfile
+
+MOST = 4194304
+
+
+def grants(count, first=0):
+    return [{"file_name": f"/department/ward/patient-{first + k:05}/", "rights": "rw"} for k in range(count)]
+
+
+def many_identities(share):
+    return {"identities": [{"id": k, "file_rights": grants(65)} for k in range(int(1024 * share))]}
+
+
+def many_grants(share):
+    return {"identities": [{"id": k, "file_rights": grants(1024)} for k in range(max(1, int(65 * share)))]}
+
+
+def many_pipelines(share):
+    count = int(1024 * share)
+    names = [f"/programs/of-the-department/for-every-ward/number-{k:04}" for k in range(count)]
+    programs = [{"program_file_name": name, "file_rights": []} for name in names]
+    places = lambda k: " | ".join(names[(k + j) % count] for j in range(64))
+    pipelines = [{"id": k, "pipeline": places(k)} for k in range(count)]
+    return {"identities": [{"id": 0, "file_rights": []}], "programs": programs, "pipelines": pipelines}
+
+
+def checked(program, path):
+    """The processor seconds and the peak memory in bytes of one check."""
+    with subprocess.Popen([program, "check", path], stdout=subprocess.DEVNULL) as child:
+        _, status, used = os.wait4(child.pid, 0)
+        child.returncode = os.waitstatus_to_exitcode(status)
+    if child.returncode:
+        sys.exit(f"status {child.returncode}")
+    return used.ru_utime + used.ru_stime, used.ru_maxrss * 1024
+
+
+SHAPES = {shape.__name__: shape for shape in (many_identities, many_grants, many_pipelines)}
+
+if sys.argv[1] == "make":
+    _, _, name, share, path = sys.argv
+    with open(path, "w") as f:
+        f.write(json.dumps(SHAPES[name](float(share)), separators=(",", ":")))
+    sys.exit()
 
 program, runs = os.path.abspath(sys.argv[1]), int(sys.argv[2])
-
-
-def policy(identities, size):
-    """A policy with so many identities, each with as many grants as the size in bytes allows."""
-    grant = {"file_name": "/department/ward/patient-0000/", "rights": "rw"}
-    each = max(1, (size // identities - 40) // (len(json.dumps(grant)) + 2))
-    grants = [dict(grant, file_name=f"/department/ward/patient-{k:04}/") for k in range(min(each, 1024))]
-    return json.dumps({"identities": [{"id": k, "file_rights": grants} for k in range(identities)]})
-
-
-took = {}
-for identities in (100, 1000):
-    text = policy(identities, 4150 * identities)
-    assert len(text) <= 4194304
-    took[identities] = replayed(program, text, "", runs)
-    print(f"{len(text):,} bytes: {took[identities] * 1000:.1f} ms, {len(text) / took[identities] / 1e6:.1f} MB a second")
-print(f"ten times the bytes take {took[1000] / took[100]:.1f} times as long")
+for name in SHAPES:
+    took = []
+    for share in ("0.1", "1"):
+        with tempfile.TemporaryDirectory() as folder:
+            path = os.path.join(folder, "policy.json")
+            subprocess.run([sys.executable, __file__, "make", name, share, path], check=True)
+            size = os.path.getsize(path)
+            assert size <= MOST, size
+            used = [checked(program, path) for _ in range(runs)]
+        seconds, peak = min(u[0] for u in used), max(u[1] for u in used)
+        took.append((size, seconds))
+        print(f"{name}, {size / 2**20:.2f} MiB: {seconds:.3f} s, {peak / 2**20:.0f} MiB, {peak / size:.1f} times the file")
+    (small, quick), (large, slow) = took
+    print(f"{name}: {large / small:.1f} times the bytes take {slow / quick:.1f} times as long")

@@ -1,6 +1,6 @@
 #!/bin/sh
-# Reads policies of 400 KB and of 4 MB, made by a generator, with the built program, and prints the processor times and how they
-# compare. Each is read to its end and governs an empty script.
+# Checks policies of 0.4 and of 4 MiB in three shapes, made by a generator, with the built program, and prints for each shape
+# the processor seconds, how the two sizes compare, and the peak memory over the size of the file.
 #   bench/policy.sh [RUNS]
 set -eu
 cd "$(dirname "$0")/.."

@@ -10,7 +10,7 @@ use std::io::ErrorKind;
 use std::process::ExitCode;
 use vr_cli::{DiskFolder, Status, StdSink, command};
 
-/// The words behind the program's name. A command line that isn't text is no command's.
+/// The words after the program's name. A command line that isn't text is no command's.
 fn words(rt: &HostRuntime) -> Result<Vec<String>, Status>
     ensures { (status : Status) → result ≡ Err status → (status ≡ Status.Usage 0) ⊎ (status ≡ Status.WantOfMemory) }
 {

@@ -5,7 +5,7 @@ use Rattle.std.proofs.lemmas.List.Elements.{All-head, All-tail, All-append, All-
 use Rattle.std.proofs.lemmas.List.Folds.{fold-map, find-append}
 use Rattle.std.proofs.lemmas.List.Sums.{fold-append}
 use Rattle.vr_base.specs.Names.{covers}
-use Rattle.vr_base.specs.Rights.{longest, greatest, covering, word_on, is_longer}
+use Rattle.vr_base.specs.Rights.{longest_grant, greatest_of, covering_grants, word_on, is_longer}
 
 -- each before it is shorter, and none behind it is longer
 pub record IsLongest (grants : List (List ℕ × ℕ)) (best : List ℕ × ℕ) : Type 0 where
@@ -43,7 +43,7 @@ no_such m (g ∷ gs) h =
     rw (ne_eqb (length g.0) m (omega arith)) (no_such m gs (All-tail (λ g. length g.0 < m) g gs h))
 
 greatest-at : (best : List ℕ × ℕ) (before after : List (List ℕ × ℕ)) → All (λ g. length g.0 < length best.0) before → All (λ g. length g.0 ≤ length best.0) after
-    → greatest (map (λ g. length g.0) (before ++ best ∷ after)) ≡ length best.0
+    → greatest_of (map (λ g. length g.0) (before ++ best ∷ after)) ≡ length best.0
 greatest-at best before after h k =
     let front : fold longer_of 0 before ≤ length best.0 = upto (length best.0) 0 before (omega arith) h in
     let here : max (fold longer_of 0 before) (length best.0) ≡ length best.0 = omega arith in
@@ -55,10 +55,10 @@ find-at best before after h =
     find-append (λ g. eqb (length g.0) (length best.0)) before (best ∷ after) ∙ rw (no_such (length best.0) before h, eq-eqb (length best.0) (length best.0) refl) refl
 
 longest-at : (best : List ℕ × ℕ) (before after : List (List ℕ × ℕ)) → All (λ g. length g.0 < length best.0) before → All (λ g. length g.0 ≤ length best.0) after
-    → longest (before ++ best ∷ after) ≡ Some best
+    → longest_grant (before ++ best ∷ after) ≡ Some best
 longest-at best before after h k = rw (greatest-at best before after h k) (find-at best before after h)
 
-pub longest_best : (grants : List (List ℕ × ℕ)) (best : Option (List ℕ × ℕ)) → IsBest grants best → longest grants ≡ best
+pub longest_best : (grants : List (List ℕ × ℕ)) (best : Option (List ℕ × ℕ)) → IsBest grants best → longest_grant grants ≡ best
 longest_best grants None h = rw h refl
 longest_best grants (Some best) h = rw h.parts (longest-at best h.before h.after h.shorter h.no_longer)
 
@@ -93,25 +93,25 @@ best_kept grants None grant h t = cc
 best_kept grants (Some best) grant h t = shorter_best grants best grant h (ltb-false _ _ t)
 
 -- the word of the best
-pub word_best : (path : List ℕ) (grants : List (List ℕ × ℕ)) (best : Option (List ℕ × ℕ)) → IsBest (covering path grants) best → unwrap_or (option_map (λ g. g.1) best) 0 ≡ word_on path grants
-word_best path grants best h = ap (λ b. unwrap_or (option_map (λ (g : List ℕ × ℕ). g.1) b) 0) (sym (longest_best (covering path grants) best h))
+pub word_best : (path : List ℕ) (grants : List (List ℕ × ℕ)) (best : Option (List ℕ × ℕ)) → IsBest (covering_grants path grants) best → unwrap_or (option_map (λ g. g.1) best) 0 ≡ word_on path grants
+word_best path grants best h = ap (λ b. unwrap_or (option_map (λ (g : List ℕ × ℕ). g.1) b) 0) (sym (longest_best (covering_grants path grants) best h))
 
 covering_more : (path : List ℕ) (grants : List (List ℕ × ℕ)) (i : ℕ) (grant : List ℕ × ℕ) (t : Bool) → i < length grants → grant ≡ get_or grants i grant → covers grant.0 path ≡ t
-    → covering path (take (i + 1) grants) ≡ covering path (take i grants) ++ cond t (grant ∷ []) []
+    → covering_grants path (take (i + 1) grants) ≡ covering_grants path (take i grants) ++ cond t (grant ∷ []) []
 covering_more path grants i grant t h e k = filter_more (λ g. covers g.0 path) grants i grant h ∙ rw (← e, k) refl
 
 -- the best after one more grant, which is better
 pub best_more : (path : List ℕ) (grants : List (List ℕ × ℕ)) (i : ℕ) (best : Option (List ℕ × ℕ)) (grant : List ℕ × ℕ) → i < length grants → grant ≡ get_or grants i grant
-    → IsBest (covering path (take i grants)) best → (covers grant.0 path && is_longer best grant) ≡ true → IsBest (covering path (take (i + 1) grants)) (Some grant)
+    → IsBest (covering_grants path (take i grants)) best → (covers grant.0 path && is_longer best grant) ≡ true → IsBest (covering_grants path (take (i + 1) grants)) (Some grant)
 best_more path grants i best grant h e b t =
     let both = and_parts (covers grant.0 path) (is_longer best grant) t in
-    rw (covering_more path grants i grant true h e both.0) (best_longer (covering path (take i grants)) best grant b both.1)
+    rw (covering_more path grants i grant true h e both.0) (best_longer (covering_grants path (take i grants)) best grant b both.1)
 
 -- the best after one more grant, which is not better
 pub best_same : (path : List ℕ) (grants : List (List ℕ × ℕ)) (i : ℕ) (best : Option (List ℕ × ℕ)) (grant : List ℕ × ℕ) → i < length grants → grant ≡ get_or grants i grant
-    → IsBest (covering path (take i grants)) best → (covers grant.0 path && is_longer best grant) ≡ false → IsBest (covering path (take (i + 1) grants)) best
+    → IsBest (covering_grants path (take i grants)) best → (covers grant.0 path && is_longer best grant) ≡ false → IsBest (covering_grants path (take (i + 1) grants)) best
 best_same path grants i best grant h e b t = by_test (covers grant.0 path) refl t
   where
-    by_test : (k : Bool) → covers grant.0 path ≡ k → (k && is_longer best grant) ≡ false → IsBest (covering path (take (i + 1) grants)) best
-    by_test true k l = rw (covering_more path grants i grant true h e k) (best_kept (covering path (take i grants)) best grant b l)
+    by_test : (k : Bool) → covers grant.0 path ≡ k → (k && is_longer best grant) ≡ false → IsBest (covering_grants path (take (i + 1) grants)) best
+    by_test true k l = rw (covering_more path grants i grant true h e k) (best_kept (covering_grants path (take i grants)) best grant b l)
     by_test false k l = rw (covering_more path grants i grant false h e k, append-nil) b

@@ -1,4 +1,4 @@
--- Masks: a word that is masked twice, a union of masked words, and a union of three.
+-- Masks: a word that is known_rights twice, a union of known_rights words, and a union of three.
 use Rattle.std.proofs.Common.{◌≡◌, ℕ, min, bit_and, bit_or, ap, arith}
 use Rattle.std.proofs.lemmas.Nat.Bits.{bit_at_and, bit_at_or, same_from_bits}
 use Rattle.std.specs.Int.{bit_at}

@@ -1,5 +1,5 @@
--- The numbers of the replies.
-use Rattle.std.specs.Prelude.{ℕ}
+-- The numbers of the replies, and which calls were made.
+use Rattle.std.specs.Prelude.{ℕ, Bool, true, false}
 use Rattle.vr_base.specs.declared.calls.Reply.{Reply}
 use Rattle.vr_base.specs.declared.calls.Reply.TheVariants.{Stored, Read, Ended, PolicyHash, NoSuchFile, Denied, NoSuchPipeline, PinMissing, PinMismatch, TooLarge, BadProgram, Trapped, OutOfFuel, BadPath, Unavailable, OutOfMemory, Unkeyed, QuotaReached}
 
@@ -23,3 +23,10 @@ reply_number Unavailable = 11
 reply_number OutOfMemory = 12
 reply_number Unkeyed = 13
 reply_number (QuotaReached name size) = 14
+
+-- Whether a call that is answered so was made, and has its entry in the history: without the keeper, or without memory,
+-- it was not.
+abbrev pub is_made : Reply → Bool
+is_made Unavailable = false
+is_made OutOfMemory = false
+is_made reply = true

@@ -1,6 +1,10 @@
 pub mod Calls
 pub mod Causes
+pub mod Checks
 pub mod Cuts
+pub mod Desks
+pub mod Links
 pub mod Names
 pub mod Outside
 pub mod Rights
+pub mod Signs

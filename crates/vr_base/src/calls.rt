@@ -55,7 +55,7 @@ pub enum Reply {
     /// A program trapped, with this kind of trap.
     Trapped { path: Path, kind: u8 },
     OutOfFuel { path: Path },
-    /// The name is no path. The fault is never want of memory.
+    /// The name is no path. The fault is never `OutOfMemory`.
     BadPath { fault: PathFault },
     /// The keeper of the files failed, and nothing was changed.
     Unavailable,

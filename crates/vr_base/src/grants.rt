@@ -1,4 +1,5 @@
-ghost use Rattle.std.specs.Prelude.{◌≡◌, ◌&&◌, IfOk, option_map};
+ghost use Rattle.std.specs.Prelude.{◌≡◌, ◌&&◌, IfOk};
+ghost use Rattle.std.specs.Option.{option_copied};
 ghost use Rattle.vr_base.specs.Rights.{word_on, is_longer};
 ghost use Rattle.vr_base.specs.Names.{covers};
 
@@ -68,7 +69,8 @@ fn is_better(
     path: &Path,
     best: Option<&(GrantName, RightsWord)>,
 ) -> bool
-    ensures { result ≡ (covers grant.now.0 path.now && is_longer (option_map (λ b. b.now) best.entry) grant.now) }
+    ensures { result ≡
+        (covers grant.now.0 path.now && is_longer (option_copied best.entry) grant.now) }
 {
     grant.0.covers(path) && best.is_none_or(|b| b.0.as_slice().len() < grant.0.as_slice().len())
 }

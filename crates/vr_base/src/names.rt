@@ -2,8 +2,9 @@ ghost use Rattle.std.specs.Prelude.{◌≡◌, ◌==◌, ◌<◌, not, length, p
 ghost use Rattle.std.specs.Cmp.{partial_equiv_from_equiv};
 ghost use Rattle.std.specs.Cmp.Lexicographic.{slice_cmp, nat_list_eq_equiv, nat_list_cmp_total, texts_ties, texts_po};
 ghost use Rattle.std.specs.Ordering.{nat_cmp};
-ghost use Rattle.vr_base.specs.Names.{Gives, path_of, grant_of, covers, is_name_byte, names_directory, normalised, grant_segments, segment_fault, first_segment_fault, length_fault, byte_fault, IsPath, IsGrantName};
+ghost use Rattle.vr_base.specs.Names.{Gives, path_of, grant_of, covers, is_name_byte, names_directory, normal_form, grant_segments, segments, segment_fault, first_segment_fault, length_fault, byte_fault, name_fault, IsPath, IsGrantName};
 ghost use Rattle.vr_base.specs.Cuts.{parts_at};
+ghost use Rattle.vr_base.specs.Signs.{slash};
 ghost use Rattle.std.specs.Option.{option_or};
 
 use crate::cuts::cut_at;
@@ -197,9 +198,9 @@ fn check_segment(segment: &[u8]) -> Option<PathFault>
     }
 }
 
-/// What is wrong with the first bad part of a name's rest behind its leading `/`.
+/// What is wrong with the first bad segment of a name, whose bytes after its leading `/` these are.
 fn check_segments(rest: &[u8]) -> Option<PathFault>
-    ensures { result ≡ first_segment_fault (parts_at 47 rest.now) }
+    ensures { result ≡ first_segment_fault (parts_at slash rest.now) }
 {
     let mut left = Some(rest);
     while let Some(bytes) = left {
@@ -212,14 +213,22 @@ fn check_segments(rest: &[u8]) -> Option<PathFault>
     None
 }
 
-/// What is wrong with the first bad segment of a normalised grant's name, where a directory's are those before its
+/// What is wrong with the first bad segment of a path in normal form.
+fn check_path_segments(path: &[u8]) -> Option<PathFault>
+    requires { 0 < length path.now }
+    ensures { result ≡ first_segment_fault (segments path.now) }
+{
+    check_segments(&path[1..])
+}
+
+/// What is wrong with the first bad segment of a grant's name in normal form, where a directory's are those before its
 /// last `/`.
 fn check_grant_segments(path: &[u8]) -> Option<PathFault>
     requires { 0 < length path.now }
     ensures { result ≡ first_segment_fault (grant_segments path.now) }
 {
     if !ends_in_slash(path) {
-        check_segments(&path[1..])
+        check_path_segments(path)
     } else if path.len() > 1 {
         check_segments(&path[1..path.len() - 1])
     } else {
@@ -234,9 +243,9 @@ fn first_bad_byte(name: &[u8]) -> Option<usize>
     name.iter().position(|b| !is_allowed(*b))
 }
 
-/// The first fault of a name that was normalised to `path`, but for its segments.
+/// The first fault of a name, whose normal form is `path`, but for its segments.
 fn check_name(name: &[u8], path: &[u8]) -> Option<PathFault>
-    requires { path.now ≡ normalised name.now }
+    requires { path.now ≡ normal_form name.now }
     ensures { result ≡ option_or (length_fault path.now) (byte_fault name.now) }
 {
     if path.len() > MOST_NAME {
@@ -248,8 +257,24 @@ fn check_name(name: &[u8], path: &[u8]) -> Option<PathFault>
     }
 }
 
+/// The first fault of a name, whose normal form is `path`, as the name of a file.
+fn path_fault(name: &[u8], path: &[u8]) -> Option<PathFault>
+    requires { path.now ≡ normal_form name.now }
+    ensures { result ≡ name_fault name.now (segments path.now) }
+{
+    check_name(name, path).or_else(|| check_path_segments(path))
+}
+
+/// The first fault of a name, whose normal form is `path`, as the name of a grant.
+fn grant_fault(name: &[u8], path: &[u8]) -> Option<PathFault>
+    requires { path.now ≡ normal_form name.now }
+    ensures { result ≡ name_fault name.now (grant_segments path.now) }
+{
+    check_name(name, path).or_else(|| check_grant_segments(path))
+}
+
 fn normalise(alloc: Global, name: &[u8]) -> Result<Vec<u8>, AllocError>
-    ensures { IfOk result (λ path. path.items ≡ normalised name.now) }
+    ensures { IfOk result (λ path. path.items ≡ normal_form name.now) }
 {
     let name = name.strip_prefix(b"./").unwrap_or(name);
     let mut path = Vec::with_capacity(alloc, name.len() + 1)?;
@@ -262,10 +287,10 @@ fn normalise(alloc: Global, name: &[u8]) -> Result<Vec<u8>, AllocError>
 
 /// The path that a name stands for.
 pub fn parse_path(alloc: Global, name: &[u8]) -> Result<Path, PathFault>
-    ensures { Gives (λ path. path) result (path_of name.now) }
+    ensures { Gives result (path_of name.now) }
 {
     let bytes = normalise(alloc, name)?;
-    match check_name(name, &bytes).or(check_segments(&bytes[1..])) {
+    match path_fault(name, &bytes) {
         Some(fault) => Err(fault),
         None => Ok(Path { bytes }),
     }
@@ -273,10 +298,10 @@ pub fn parse_path(alloc: Global, name: &[u8]) -> Result<Path, PathFault>
 
 /// The path or the directory that a grant's name stands for.
 pub fn parse_grant_name(alloc: Global, name: &[u8]) -> Result<GrantName, PathFault>
-    ensures { Gives (λ name. name) result (grant_of name.now) }
+    ensures { Gives result (grant_of name.now) }
 {
     let bytes = normalise(alloc, name)?;
-    match check_name(name, &bytes).or(check_grant_segments(&bytes)) {
+    match grant_fault(name, &bytes) {
         Some(fault) => Err(fault),
         None => Ok(GrantName { bytes }),
     }

@@ -1,6 +1,6 @@
-pub mod Clauses
-pub mod Ending
-pub mod Fronts
+pub mod EndingLemmas
+pub mod FileLemmas
+pub mod GatheringLemmas
 pub mod Mapped
-pub mod Replays
-pub mod Told
+pub mod ReplayLemmas
+pub mod WordLemmas

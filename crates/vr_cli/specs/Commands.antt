@@ -1,8 +1,18 @@
--- The command that the words ask for, without where its words lie in memory.
-use Rattle.vr_cli.specs.Words.{Asked, hash, replay}
+-- What the code's own types stand for.
+use Rattle.std.specs.Prelude.{List, ℕ}
+use Rattle.vr_core.specs.Machine.{Origin}
+use Rattle.vr_core.specs.State.{no_files}
+use Rattle.vr_policy_read.specs.PolicyData.{PolicyData}
+use Rattle.vr_cli.specs.Words.{Task, hash, check, replay}
 use Rattle.vr_cli.specs.declared.words.Command.{Command}
-use Rattle.vr_cli.specs.declared.words.Command.TheVariants.{Hash, Replay}
+use Rattle.vr_cli.specs.declared.words.Command.TheVariants.{Hash, Check, Replay}
 
-abbrev pub view : Command → Asked
-view (Hash policy) = hash policy.now
-view (Replay policy script) = replay policy.now script.now
+-- the task of a command, without where its words lie in memory
+abbrev pub task_of : Command → Task
+task_of (Hash policy) = hash policy.now
+task_of (Check policy) = check policy.now
+task_of (Replay policy script) = replay policy.now script.now
+
+-- where a replay under a policy with this hash begins: without files
+abbrev pub started : PolicyData × List ℕ → Origin
+started said = record { policy = said.0; hash = said.1; opening = no_files }

@@ -1,6 +1,10 @@
-pub mod Answers
 pub mod Commands
-pub mod Memory
-pub mod Outcomes
+pub mod Endings
+pub mod Faults
+pub mod Gathering
+pub mod MemFolders
+pub mod MemSinks
+pub mod Outputs
+pub mod Rooms
 pub mod Statuses
 pub mod Words

@@ -1,5 +1,6 @@
 -- The exit status and the text of each status.
-use Rattle.std.specs.Prelude.{ℕ, List, [], ◌++◌, codes, decimal, slice_get, unwrap_or}
+use Rattle.std.specs.Prelude.{ℕ, List, [], ◌++◌, codes, decimal}
+use Rattle.vr_cli.specs.Words.{word_at}
 use Rattle.vr_cli.specs.declared.status.Status.{Status}
 use Rattle.vr_cli.specs.declared.status.Status.TheVariants as statuses
 
@@ -20,7 +21,7 @@ status_text words (statuses.Usage index) = codes "usage: word " ++ decimal index
 status_text words (statuses.PolicyRefused stage rule index) =
     codes "policy refused: stage " ++ (decimal stage ++ (codes " rule " ++ (decimal rule ++ (codes " at " ++ decimal index))))
 status_text words (statuses.ScriptRefused line) = codes "script refused: line " ++ decimal line
-status_text words (statuses.Absent word) = codes "absent: " ++ unwrap_or (slice_get words word) []
+status_text words (statuses.Absent word) = codes "absent: " ++ word_at words word
 status_text words statuses.ReadFault = codes "read fault"
 status_text words statuses.WriteFault = codes "write fault"
 status_text words statuses.WantOfMemory = codes "out of memory"

@@ -4,7 +4,10 @@
 
 mod commands;
 mod disk;
-mod memory;
+mod failing;
+mod gathering;
+mod mem_folder;
+mod mem_sink;
 mod reading;
 mod replaying;
 mod status;
@@ -12,5 +15,6 @@ mod words;
 
 pub use commands::command;
 pub use disk::{DiskFolder, StdSink};
-pub use memory::{MemFolder, MemSink};
+pub use mem_folder::MemFolder;
+pub use mem_sink::MemSink;
 pub use status::Status;

@@ -1,33 +1,37 @@
-ghost use Rattle.std.specs.Prelude.{◌≡◌, IfErr};
+ghost use Rattle.std.specs.Prelude.{◌≡◌, take, IfErr};
+ghost use Rattle.vr_base.specs.Checks.{result_map, result_map_err};
 ghost use Rattle.vr_base.specs.Outside.{file_of};
-ghost use Rattle.vr_cli.specs.Answers.{Gives, Tells, read_front, in_file, policy_in, script_in, hash_in};
-ghost use Rattle.vr_cli.specs.Outcomes.{HasReadCause, IsRefusal, AreLater, counts};
-ghost use Rattle.vr_policy_read.specs.Policies.{most_policy};
+ghost use Rattle.vr_cli.specs.Endings.{Gives, GivesOver, HasReadCause, IsRefusal};
+ghost use Rattle.vr_cli.specs.Outputs.{bytes_named, in_file, checked_from, origin_from, rule_refusal, script_in, digits_from};
+ghost use Rattle.vr_cli.specs.Commands.{started};
+ghost use Rattle.vr_policy_check.specs.Rules.{check_of};
+ghost use Rattle.vr_policy_read.specs.Limits.{most_policy};
 ghost use Rattle.vr_report.specs.Script.{most_script};
 
 use crate::status::Status;
 use std::alloc::Global;
 use vr_base::{Bytes, Folder, FolderFault};
+use vr_policy_check::{CheckFault, CheckKind, CheckedPolicy, check};
 use vr_policy_read::{MOST_POLICY, Policy, ReadFault, ReadKind, policy_hash, read_policy};
 use vr_report::{MOST_SCRIPT, Script, ScriptFault, read_script};
 
 /// The first `most` bytes of the file that the word at this place names.
-#[tactic(auto, using(crate::proofs::Told::told_bytes, crate::proofs::Told::told_absent, crate::proofs::Told::told_freely))]
+#[tactic(auto, using(crate::proofs::FileLemmas::told_bytes, crate::proofs::FileLemmas::told_absent, crate::proofs::FileLemmas::told_freely))]
 fn read_file<F: Folder>(
     alloc: Global,
     folder: &mut F,
     name: &str,
-    word: u32,
+    place: u32,
     most: usize,
 ) -> Result<Bytes, Status>
     ensures same { F.files folder.new ≡ F.files folder.old }
-    ensures told { Tells (F.files folder.old) (λ bytes. bytes) result (λ fs. read_front word most (file_of name.now fs)) }
-    ensures cause { IfErr result (HasReadCause (counts (F.absences folder.old) (F.faults folder.old)) (counts (F.absences folder.new) (F.faults folder.new))) }
-    ensures later { AreLater (counts (F.absences folder.old) (F.faults folder.old)) (counts (F.absences folder.new) (F.faults folder.new)) }
+    ensures told { GivesOver (F.files folder.old) result (λ files.
+        result_map (take most) (bytes_named place name.now files)) }
+    ensures cause { HasReadCause (F.counts folder.old) (F.counts folder.new) result }
 {
     match folder.read(alloc, name, most) {
         Ok(bytes) => Ok(bytes),
-        Err(FolderFault::Absent) => Err(Status::Absent { word }),
+        Err(FolderFault::Absent) => Err(Status::Absent { word: place }),
         Err(FolderFault::Failed) => Err(Status::ReadFault),
         Err(FolderFault::OutOfMemory) => Err(Status::WantOfMemory),
     }
@@ -35,7 +39,7 @@ fn read_file<F: Folder>(
 
 /// The policy that the bytes say, and their hash.
 fn parse_policy(alloc: Global, bytes: &[u8]) -> Result<(Policy, [u8; 64]), Status>
-    ensures answer { Gives (λ said. said) result (policy_in most_policy bytes.now) }
+    ensures answer { Gives (result_map started result) (origin_from most_policy bytes.now) }
     ensures refusal { IfErr result IsRefusal }
 {
     match read_policy(alloc, bytes) {
@@ -54,9 +58,51 @@ fn parse_policy(alloc: Global, bytes: &[u8]) -> Result<(Policy, [u8; 64]), Statu
     }
 }
 
+/// The policy that the bytes say, checked.
+fn parse_checked(alloc: Global, bytes: &[u8]) -> Result<CheckedPolicy, Status>
+    ensures answer { Gives result (checked_from most_policy bytes.now) }
+    ensures refusal { IfErr result IsRefusal }
+{
+    match read_policy(alloc, bytes) {
+        Ok(policy) => check_policy(alloc, policy),
+        Err(
+            ReadFault {
+                kind: ReadKind::OutOfMemory,
+                ..
+            },
+        ) => Err(Status::WantOfMemory),
+        Err(fault) => Err(Status::PolicyRefused {
+            stage: 1,
+            rule: fault.kind.number(),
+            index: fault.at,
+        }),
+    }
+}
+
+/// The policy, where it meets every rule.
+fn check_policy(alloc: Global, policy: Policy) -> Result<CheckedPolicy, Status>
+    ensures answer { Gives result (result_map_err rule_refusal (check_of policy)) }
+    ensures refusal { IfErr result IsRefusal }
+{
+    match check(alloc, policy) {
+        Ok(checked) => Ok(checked),
+        Err(
+            CheckFault {
+                kind: CheckKind::OutOfMemory,
+                ..
+            },
+        ) => Err(Status::WantOfMemory),
+        Err(fault) => Err(Status::PolicyRefused {
+            stage: 2,
+            rule: fault.kind.number(),
+            index: fault.at,
+        }),
+    }
+}
+
 /// The calls of the script that the bytes are.
 fn parse_script(alloc: Global, bytes: &[u8]) -> Result<Script, Status>
-    ensures answer { Gives (λ script. script) result (script_in most_script bytes.now) }
+    ensures answer { Gives result (script_in most_script bytes.now) }
     ensures refusal { IfErr result IsRefusal }
 {
     match read_script(alloc, bytes) {
@@ -68,7 +114,7 @@ fn parse_script(alloc: Global, bytes: &[u8]) -> Result<Script, Status>
 
 /// The hash of a policy file with these bytes.
 fn hash_policy(bytes: &[u8]) -> Result<[u8; 64], Status>
-    ensures answer { Gives (λ digits. digits) result (hash_in most_policy bytes.now) }
+    ensures answer { Gives result (digits_from most_policy bytes.now) }
     ensures refusal { IfErr result IsRefusal }
 {
     if bytes.len() > MOST_POLICY {
@@ -82,40 +128,56 @@ fn hash_policy(bytes: &[u8]) -> Result<[u8; 64], Status>
 }
 
 /// The policy in the file of this name, and the hash of the file.
-#[tactic(auto, using(crate::proofs::Told::refusal_is_read))]
+#[tactic(auto, using(crate::proofs::FileLemmas::refusal_is_counted))]
 pub fn load_policy<F: Folder>(
     alloc: Global,
     folder: &mut F,
     name: &str,
 ) -> Result<(Policy, [u8; 64]), Status>
     ensures same { F.files folder.new ≡ F.files folder.old }
-    ensures told { Tells (F.files folder.old) (λ said. said) result (λ fs. in_file (policy_in most_policy) 1 (file_of name.now fs)) }
-    ensures cause { IfErr result (HasReadCause (counts (F.absences folder.old) (F.faults folder.old)) (counts (F.absences folder.new) (F.faults folder.new))) }
-    ensures later { AreLater (counts (F.absences folder.old) (F.faults folder.old)) (counts (F.absences folder.new) (F.faults folder.new)) }
+    ensures told { GivesOver (F.files folder.old) (result_map started result)
+        (in_file (origin_from most_policy) 1 name.now) }
+    ensures cause { HasReadCause (F.counts folder.old) (F.counts folder.new) result }
 {
     let bytes = read_file(alloc, folder, name, 1, MOST_POLICY + 1)?;
     parse_policy(alloc, bytes.as_slice())
 }
 
+/// The policy in the file of this name, checked.
+#[tactic(auto, using(crate::proofs::FileLemmas::refusal_is_counted))]
+pub fn load_checked<F: Folder>(
+    alloc: Global,
+    folder: &mut F,
+    name: &str,
+) -> Result<CheckedPolicy, Status>
+    ensures same { F.files folder.new ≡ F.files folder.old }
+    ensures told { GivesOver (F.files folder.old) result
+        (in_file (checked_from most_policy) 1 name.now) }
+    ensures cause { HasReadCause (F.counts folder.old) (F.counts folder.new) result }
+{
+    let bytes = read_file(alloc, folder, name, 1, MOST_POLICY + 1)?;
+    parse_checked(alloc, bytes.as_slice())
+}
+
 /// The script in the file of this name.
-#[tactic(auto, using(crate::proofs::Told::refusal_is_read))]
+#[tactic(auto, using(crate::proofs::FileLemmas::refusal_is_counted))]
 pub fn load_script<F: Folder>(alloc: Global, folder: &mut F, name: &str) -> Result<Script, Status>
     ensures same { F.files folder.new ≡ F.files folder.old }
-    ensures told { Tells (F.files folder.old) (λ script. script) result (λ fs. in_file (script_in most_script) 2 (file_of name.now fs)) }
-    ensures cause { IfErr result (HasReadCause (counts (F.absences folder.old) (F.faults folder.old)) (counts (F.absences folder.new) (F.faults folder.new))) }
-    ensures later { AreLater (counts (F.absences folder.old) (F.faults folder.old)) (counts (F.absences folder.new) (F.faults folder.new)) }
+    ensures told { GivesOver (F.files folder.old) result
+        (in_file (script_in most_script) 2 name.now) }
+    ensures cause { HasReadCause (F.counts folder.old) (F.counts folder.new) result }
 {
     let bytes = read_file(alloc, folder, name, 2, MOST_SCRIPT + 1)?;
     parse_script(alloc, bytes.as_slice())
 }
 
 /// The hash of the policy file of this name.
-#[tactic(auto, using(crate::proofs::Told::refusal_is_read))]
+#[tactic(auto, using(crate::proofs::FileLemmas::refusal_is_counted))]
 pub fn load_hash<F: Folder>(alloc: Global, folder: &mut F, name: &str) -> Result<[u8; 64], Status>
     ensures same { F.files folder.new ≡ F.files folder.old }
-    ensures told { Tells (F.files folder.old) (λ digits. digits) result (λ fs. in_file (hash_in most_policy) 1 (file_of name.now fs)) }
-    ensures cause { IfErr result (HasReadCause (counts (F.absences folder.old) (F.faults folder.old)) (counts (F.absences folder.new) (F.faults folder.new))) }
-    ensures later { AreLater (counts (F.absences folder.old) (F.faults folder.old)) (counts (F.absences folder.new) (F.faults folder.new)) }
+    ensures told { GivesOver (F.files folder.old) result
+        (in_file (digits_from most_policy) 1 name.now) }
+    ensures cause { HasReadCause (F.counts folder.old) (F.counts folder.new) result }
 {
     let bytes = read_file(alloc, folder, name, 1, MOST_POLICY + 1)?;
     hash_policy(bytes.as_slice())

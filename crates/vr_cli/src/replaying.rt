@@ -1,44 +1,34 @@
-ghost use Rattle.std.specs.Prelude.{◌≡◌, ◌≤◌, IfErr, OnOk, OnErr};
-ghost use Rattle.std.specs.Io.KnownBytes.{Appends};
-ghost use Rattle.vr_base.specs.Outside.{AppendsFront};
-ghost use Rattle.vr_cli.specs.Outcomes.{HasWriteCause};
-ghost use Rattle.vr_cli.specs.Answers.{origin_of};
+ghost use Rattle.std.specs.Prelude.{◌≡◌, OnOk};
+ghost use Rattle.vr_base.specs.Causes.{HasCauseOf};
+ghost use Rattle.vr_cli.specs.Gathering.{HandsIn, Writes};
 ghost use Rattle.vr_core.specs.Machine.{step};
-ghost use Rattle.vr_report.specs.Texts.{call_line, script_lines, files_of, files_text, replay_text};
+ghost use Rattle.vr_core.specs.State.{no_files};
+ghost use Rattle.vr_report.specs.Texts.{call_line, script_lines, script_replay, files_text, replay_text};
 
-use crate::status::Status;
+use crate::gathering::{TextFault, finish, gather, pass_on};
 use std::alloc::Global;
-use vr_base::{Failed, Reply, Sink, write_all};
+use vr_base::{Bytes, Reply, Sink};
 use vr_core::{Book, Files};
 use vr_policy_read::Policy;
-use vr_report::{Line, Script, call_line, file_line, policy_line};
+use vr_report::{Line, Script, add_call_line, add_file_line, add_policy_line};
 
-/// Writes a text whole, or a front of it.
-pub fn write_text<O: Sink>(out: &mut O, text: &[u8]) -> Result<(), Status>
-    ensures ok { OnOk result (Appends (O.written out.old) (O.written out.new) text.now) }
-    ensures err { OnErr result (AppendsFront (O.written out.old) (O.written out.new) text.now) }
-    ensures cause { IfErr result (HasWriteCause (O.faults out.old) (O.faults out.new)) }
-    ensures later { O.faults out.old ≤ O.faults out.new }
-{
-    match write_all(out, text) {
-        Ok(()) => Ok(()),
-        Err(Failed) => Err(Status::WriteFault),
-    }
-}
+/// The one seat from which a script's calls come.
+const SEAT: u32 = 0;
 
-/// Makes a call of the script and writes its line.
+/// Makes a call of the script and adds its line to the text. The answer is what is left to be written.
 fn write_call<O: Sink>(
-    alloc: Global,
     book: &mut Book,
     line: Line,
+    text: Bytes,
     out: &mut O,
-) -> Result<(), Status>
-    ensures ok { OnOk result (Appends (O.written out.old) (O.written out.new) (call_line line.line line.who (step book.old.origin book.old.files line.who line.call).0)) }
-    ensures err { OnErr result (AppendsFront (O.written out.old) (O.written out.new) (call_line line.line line.who (step book.old.origin book.old.files line.who line.call).0)) }
-    ensures files { OnOk result (book.new.files ≡ (step book.old.origin book.old.files line.who line.call).1) }
+) -> Result<Bytes, TextFault>
+    ensures text { HandsIn result (O.written out.old) (O.written out.new) text
+        (call_line line.line line.who
+        (step book.old.origin book.old.files line.who line.call).reply) }
+    ensures files { OnOk result (book.new.files ≡
+        (step book.old.origin book.old.files line.who line.call).files) }
     ensures origin { book.new.origin ≡ book.old.origin }
-    ensures cause { IfErr result (HasWriteCause (O.faults out.old) (O.faults out.new)) }
-    ensures later { O.faults out.old ≤ O.faults out.new }
+    ensures cause { HasCauseOf TextFault.Failed (O.faults out.old) (O.faults out.new) result }
 {
     let Line {
         line: number,
@@ -47,43 +37,44 @@ fn write_call<O: Sink>(
     } = line;
     let reply = book.step(SEAT, who, call);
     if let Reply::OutOfMemory = reply {
-        return Err(Status::WantOfMemory);
+        return Err(TextFault::OutOfMemory);
     }
-    let text = call_line(alloc, number, who, &reply)?;
-    write_text(out, text.as_slice())
+    pass_on(add_call_line(text, number, who, &reply)?, out)
 }
 
-/// Makes the calls of the script in order, and writes a line for each.
+/// Makes the calls of the script in order, and adds a line for each.
+#[tactic(auto, using(crate::proofs::GatheringLemmas::reaches_none, crate::proofs::GatheringLemmas::reaches_all))]
 fn write_calls<O: Sink>(
-    alloc: Global,
     book: &mut Book,
     script: Script,
+    text: Bytes,
     out: &mut O,
-) -> Result<(), Status>
-    ensures ok { OnOk result (Appends (O.written out.old) (O.written out.new) (script_lines book.old.origin book.old.files script)) }
-    ensures err { OnErr result (AppendsFront (O.written out.old) (O.written out.new) (script_lines book.old.origin book.old.files script)) }
-    ensures files { OnOk result (book.new.files ≡ files_of book.old.origin book.old.files script) }
-    ensures cause { IfErr result (HasWriteCause (O.faults out.old) (O.faults out.new)) }
-    ensures later { O.faults out.old ≤ O.faults out.new }
+) -> Result<Bytes, TextFault>
+    ensures text { HandsIn result (O.written out.old) (O.written out.new) text
+        (script_lines book.old.origin book.old.files script) }
+    ensures files { OnOk result (book.new.files ≡
+        (script_replay book.old.origin book.old.files script).files) }
+    ensures cause { HasCauseOf TextFault.Failed (O.faults out.old) (O.faults out.new) result }
 {
+    let mut left = text;
     for line in script.into_vec() {
-        write_call(alloc, book, line, out)?;
+        left = write_call(book, line, left, out)?;
     }
-    Ok(())
+    Ok(left)
 }
 
-/// Writes a line for each file, in the order of their paths.
-fn write_files<O: Sink>(alloc: Global, files: &Files, out: &mut O) -> Result<(), Status>
-    ensures ok { OnOk result (Appends (O.written out.old) (O.written out.new) (files_text files.now)) }
-    ensures err { OnErr result (AppendsFront (O.written out.old) (O.written out.new) (files_text files.now)) }
-    ensures cause { IfErr result (HasWriteCause (O.faults out.old) (O.faults out.new)) }
-    ensures later { O.faults out.old ≤ O.faults out.new }
+/// Adds a line for each file, in the order of their paths.
+#[tactic(auto, using(crate::proofs::GatheringLemmas::reaches_none, crate::proofs::GatheringLemmas::reaches_all))]
+fn write_files<O: Sink>(files: &Files, text: Bytes, out: &mut O) -> Result<Bytes, TextFault>
+    ensures text { HandsIn result (O.written out.old) (O.written out.new) text
+        (files_text files.now) }
+    ensures cause { HasCauseOf TextFault.Failed (O.faults out.old) (O.faults out.new) result }
 {
+    let mut left = text;
     for (path, body) in files.iter() {
-        let text = file_line(alloc, path, body)?;
-        write_text(out, text.as_slice())?;
+        left = pass_on(add_file_line(left, path, body)?, out)?;
     }
-    Ok(())
+    Ok(left)
 }
 
 /// Replays the script from no files on, under a policy with this hash, and writes its text.
@@ -93,18 +84,14 @@ pub fn write_replay<O: Sink>(
     hash: [u8; 64],
     script: Script,
     out: &mut O,
-) -> Result<(), Status>
-    ensures ok { OnOk result (Appends (O.written out.old) (O.written out.new) (replay_text (origin_of (policy, hash)) script)) }
-    ensures err { OnErr result (AppendsFront (O.written out.old) (O.written out.new) (replay_text (origin_of (policy, hash)) script)) }
-    ensures cause { IfErr result (HasWriteCause (O.faults out.old) (O.faults out.new)) }
-    ensures later { O.faults out.old ≤ O.faults out.new }
+) -> Result<(), TextFault>
+    ensures text { Writes result (O.written out.old) (O.written out.new)
+        (replay_text (record { policy = policy; hash = hash; opening = no_files }) script) }
+    ensures cause { HasCauseOf TextFault.Failed (O.faults out.old) (O.faults out.new) result }
 {
-    let first = policy_line(alloc, &hash)?;
+    let text = add_policy_line(gather(alloc)?, &hash)?;
     let mut book = Book::start(alloc, policy, hash);
-    write_text(out, first.as_slice())?;
-    write_calls(alloc, &mut book, script, out)?;
-    write_files(alloc, book.files(), out)
+    let text = write_calls(&mut book, script, text, out)?;
+    let text = write_files(book.files(), text, out)?;
+    finish(text, out)
 }
-
-/// The one seat from which a script's calls come.
-const SEAT: u32 = 0;

@@ -1,18 +1,21 @@
-ghost use Rattle.std.specs.Prelude.{◌≡◌, [], map, string_bytes, slice_get, unwrap_or, IfOk};
+ghost use Rattle.std.specs.Prelude.{◌≡◌, map, string_bytes, IfOk};
 ghost use Rattle.vr_cli.specs.Statuses.{exit_code, status_text};
+ghost use Rattle.vr_cli.specs.Words.{word_at};
 
+use crate::gathering::TextFault;
 use std::alloc::{AllocError, Global};
-use vr_base::NoMemory;
+use vr_base::Failed;
 
 /// How a command ended.
 #[derive(Clone, Copy, Debug, PartialEq, Eq)]
 pub enum Status {
     /// Everything was done and written.
     Ok,
-    /// No command has these words: the place, counted from 0 behind the program's name, of the first word that none has
+    /// No command has these words: the place, counted from 0 after the program's name, of the first word that none has
     /// after the words before it, or the number of words where they end too early.
     Usage { index: u32 },
-    /// The policy is refused: by its reading (stage 1), the number of the rule and the index of the entry.
+    /// The policy is refused, by its reading (stage 1) or by a rule on the whole of it (stage 2): the number of the rule and
+    /// the index of the entry.
     PolicyRefused { stage: u32, rule: u32, index: u32 },
     /// The first line of the script that stands for no call, counted from 1, and 0 for a script that is too long.
     ScriptRefused { line: u32 },
@@ -22,25 +25,52 @@ pub enum Status {
     ReadFault,
     /// The text could not be written, or not all of it.
     WriteFault,
-    /// Memory ran out. A front of the text may have been written.
+    /// Memory ran out. A prefix of the text may have been written.
     WantOfMemory,
 }
 
-impl From<NoMemory> for Status {
+impl From<AllocError> for Status {
     ghost use Rattle.std.specs.Prelude.{◌≡◌};
     ghost use Rattle.vr_cli.specs.declared.status.Status.TheVariants.{WantOfMemory};
 
     ghost from_gives = { λ _ status. status ≡ WantOfMemory };
 
-    fn from(_refused: NoMemory) -> Status {
+    /// Memory ran out.
+    fn from(_refused: AllocError) -> Status {
         Status::WantOfMemory
+    }
+}
+
+impl From<Failed> for Status {
+    ghost use Rattle.std.specs.Prelude.{◌≡◌};
+    ghost use Rattle.vr_cli.specs.declared.status.Status.TheVariants.{WriteFault};
+
+    ghost from_gives = { λ _ status. status ≡ WriteFault };
+
+    /// A write failed.
+    fn from(_failed: Failed) -> Status {
+        Status::WriteFault
+    }
+}
+
+impl From<TextFault> for Status {
+    ghost use Rattle.std.specs.Prelude.{◌≡◌};
+    ghost use Rattle.vr_cli.specs.Faults.{status_for};
+
+    ghost from_gives = { λ fault status. status ≡ status_for fault };
+
+    fn from(fault: TextFault) -> Status {
+        match fault {
+            TextFault::Failed => Status::WriteFault,
+            TextFault::OutOfMemory => Status::WantOfMemory,
+        }
     }
 }
 
 /// The word at this place, or no text where there is none.
 #[tactic(auto, using(crate::proofs::Mapped::get_mapped))]
 fn word_at(words: &[String], at: u32) -> &str
-    ensures { result.now ≡ unwrap_or (slice_get (map string_bytes words.now) at) [] }
+    ensures { result.now ≡ word_at (map string_bytes words.now) at }
 {
     match words.get(at as usize) {
         Some(word) => word.as_str(),
@@ -68,7 +98,8 @@ impl Status {
     /// The text that the program prints on standard error, without a line feed, and no text for `Ok`. The words are those
     /// of the command line: the text of an absent file has its word.
     pub fn text(self, alloc: Global, words: &[String]) -> Result<String, AllocError>
-        ensures { IfOk result (λ text. string_bytes text ≡ status_text (map string_bytes words.now) self) }
+        ensures { IfOk result (λ text.
+            string_bytes text ≡ status_text (map string_bytes words.now) self) }
     {
         match self {
             Status::Ok => Ok(String::new(alloc)),

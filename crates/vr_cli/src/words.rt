@@ -1,12 +1,16 @@
-ghost use Rattle.std.specs.Prelude.{◌≡◌, map, string_bytes, MatchResult, Ok, Err};
-ghost use Rattle.vr_cli.specs.Words.{asked, asked_hash, asked_replay, asked_script, is_file_word};
-ghost use Rattle.vr_cli.specs.Commands.{view};
+ghost use Rattle.std.specs.Prelude.{◌≡◌, ◌+◌, ◌<◌, ◌∷◌, ◌^◌, length, map, string_bytes, OnOk};
+ghost use Rattle.std.specs.Result.{result_err};
+ghost use Rattle.vr_base.specs.Checks.{result_map};
+ghost use Rattle.vr_cli.specs.Commands.{task_of};
+ghost use Rattle.vr_cli.specs.Words.{asked, files_fault, is_file_word};
 
 /// What a command line asks for.
 #[derive(Clone, Copy, Debug)]
 pub enum Command<'a> {
     /// The hash of a policy.
     Hash { policy: &'a str },
+    /// The check of a policy.
+    Check { policy: &'a str },
     /// The replay of a script under a policy.
     Replay { policy: &'a str, script: &'a str },
 }
@@ -17,51 +21,56 @@ fn is_file(word: &str) -> bool
     !word.is_empty() && !word.as_bytes().starts_with(b"-")
 }
 
-fn parse_hash(words: &[String]) -> Result<Command<'_>, u32>
-    ensures { MatchResult result (λ command. asked_hash (map string_bytes words.now) ≡ Ok (view command)) (λ at. asked_hash (map string_bytes words.now) ≡ Err at) }
+/// That the words, the first of which has this place, name so many files, or the place of the first that is none of them.
+#[tactic(auto, using(crate::proofs::WordLemmas::files_counted))]
+fn check_files(words: &[String], count: u32, place: u32) -> Result<(), u32>
+    requires { place + count < 2 ^ 32 }
+    ensures fault { result_err result ≡ files_fault place count (map string_bytes words.now) }
+    ensures count { OnOk result (length words.now ≡ count) }
 {
     match words {
-        [policy, rest @ ..] if is_file(policy.as_str()) => match rest {
-            [] => Ok(Command::Hash {
-                policy: policy.as_str(),
-            }),
-            _ => Err(2),
-        },
-        _ => Err(1),
+        [] if count == 0 => Ok(()),
+        [word, rest @ ..] if count > 0 && is_file(word.as_str()) => {
+            check_files(rest, count - 1, place + 1)
+        }
+        _ => Err(place),
     }
 }
 
-fn parse_script<'a>(policy: &'a str, words: &'a [String]) -> Result<Command<'a>, u32>
-    ensures { MatchResult result (λ command. asked_script policy.now (map string_bytes words.now) ≡ Ok (view command)) (λ at. asked_script policy.now (map string_bytes words.now) ≡ Err at) }
+/// What a command asks for with the words after its name.
+fn parse_command<'a>(name: &str, files: &'a [String]) -> Result<Command<'a>, u32>
+    ensures { result_map task_of result ≡ asked (name.now ∷ map string_bytes files.now) }
 {
-    match words {
-        [script, rest @ ..] if is_file(script.as_str()) => match rest {
-            [] => Ok(Command::Replay {
-                policy,
-                script: script.as_str(),
-            }),
-            _ => Err(3),
-        },
-        _ => Err(2),
-    }
-}
-
-fn parse_replay(words: &[String]) -> Result<Command<'_>, u32>
-    ensures { MatchResult result (λ command. asked_replay (map string_bytes words.now) ≡ Ok (view command)) (λ at. asked_replay (map string_bytes words.now) ≡ Err at) }
-{
-    match words {
-        [policy, rest @ ..] if is_file(policy.as_str()) => parse_script(policy.as_str(), rest),
-        _ => Err(1),
+    match name {
+        "hash" => {
+            check_files(files, 1, 1)?;
+            Ok(Command::Hash {
+                policy: files[0].as_str(),
+            })
+        }
+        "check" => {
+            check_files(files, 1, 1)?;
+            Ok(Command::Check {
+                policy: files[0].as_str(),
+            })
+        }
+        "replay" => {
+            check_files(files, 2, 1)?;
+            Ok(Command::Replay {
+                policy: files[0].as_str(),
+                script: files[1].as_str(),
+            })
+        }
+        _ => Err(0),
     }
 }
 
 /// What the words ask for, or the place of the first word that no command has after the words before it.
 pub fn parse(words: &[String]) -> Result<Command<'_>, u32>
-    ensures { MatchResult result (λ command. asked (map string_bytes words.now) ≡ Ok (view command)) (λ at. asked (map string_bytes words.now) ≡ Err at) }
+    ensures { result_map task_of result ≡ asked (map string_bytes words.now) }
 {
     match words {
-        [command, rest @ ..] if command.as_str() == "hash" => parse_hash(rest),
-        [command, rest @ ..] if command.as_str() == "replay" => parse_replay(rest),
-        _ => Err(0),
+        [name, files @ ..] => parse_command(name.as_str(), files),
+        [] => Err(0),
     }
 }

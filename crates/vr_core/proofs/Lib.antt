@@ -1,3 +1,2 @@
 pub mod FileMaps
 pub mod Histories
-pub mod Refusals

@@ -1,5 +1,5 @@
 pub mod State
-pub mod Answers
 pub mod Machine
+pub mod Replies
 pub mod History
 pub mod Plans

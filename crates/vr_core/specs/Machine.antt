@@ -1,145 +1,155 @@
--- The policy machine: what one call of one identity is answered, and the files after it. The checks stand in their
--- order, and the first that fails gives the reply.
-use Rattle.std.specs.Prelude.{ℕ, Bool, true, false, ◌-◌, ◌^◌, ◌==◌, min, nat_lt, List, [], ◌∷◌, length, find, Option, Some, None, unwrap_or, Result, Ok, Err, if◌then◌else◌, ◌+◌, ◌++◌}
+-- The policy machine: what one call of one identity is answered, and the files after it; and what a list of calls comes
+-- to. A call meets its checks in this order, and the first that fails is its answer.
+--   1 The name is a path.
+--   2 The caller is an identity of the policy.
+--   3 The pipeline is listed.
+--   4 The caller has the rights that the call needs.
+--   5 The file is there.
+--   6 The file's new size is no more than a file may have.
+use Rattle.std.specs.Prelude.{ℕ, ◌+◌, ◌-◌, ◌^◌, ◌==◌, min, nat_lt, List, [], ◌∷◌, ◌++◌, length, find, option_map, unwrap_or, Result, Ok, Err}
 use Rattle.std.specs.FinMap.{get, insert}
+use Rattle.vr_base.specs.Checks.{◌>>=◌, ◌>>◌, or_fault, unless_fault, fault_if, result_map_err}
 use Rattle.vr_base.specs.Names.{path_of}
-use Rattle.vr_base.specs.Rights.{word_of, word_on, missing_right}
-use Rattle.vr_base.specs.declared.names.PathFault.{PathFault}
+use Rattle.vr_base.specs.Rights.{word_on, missing_right, read_rights, write_rights, append_rights}
 use Rattle.vr_base.specs.declared.calls.Call.{Call}
 use Rattle.vr_base.specs.declared.calls.Call.TheVariants as calls
 use Rattle.vr_base.specs.declared.calls.Reply.{Reply}
-use Rattle.vr_base.specs.declared.calls.Reply.TheVariants.{Stored, PolicyHash, NoSuchFile, NoSuchPipeline, Denied, TooLarge, BadPath, Unavailable, Unkeyed}
-use Rattle.vr_base.specs.declared.calls.Reply.TheVariants as replies
+use Rattle.vr_base.specs.declared.calls.Reply.TheVariants.{Stored, Read, PolicyHash, NoSuchFile, NoSuchPipeline, Denied, TooLarge, BadPath, Unavailable, Unkeyed}
 use Rattle.vr_policy_read.specs.PolicyData.{PolicyData}
 use Rattle.vr_policy_read.specs.declared.entries.Identity.{Identity}
 use Rattle.vr_policy_read.specs.declared.entries.Pipeline.{Pipeline}
 use Rattle.vr_core.specs.State.{FileMap}
 
--- what a history begins with: the policy, the hash of its file in 64 digits, and the files
+-- Where the machine begins: the policy, the hash of its file in 64 digits, and the files.
 pub record Origin : Type 0 where
   pub policy : PolicyData
   pub hash : List ℕ
   pub opening : FileMap
 
--- what a check lets pass, or the reply of the check that fails
+-- ---- the checks, each of which lets a value pass or has the reply of its failure
+
+-- a value, or the reply of the check that fails
 abbrev pub Checked : Type 0 → Type 0
 Checked A = Result A Reply
 
-infixl 10 ◌>>=◌
-abbrev pub ◌>>=◌ : {A B : Type 0} → Checked A → (A → Checked B) → Checked B
-(Ok x) >>= f = f x
-(Err reply) >>= f = Err reply
-
--- a name's fault as a reply
-abbrev pub bad_path : Result (List ℕ) PathFault → Checked (List ℕ)
-bad_path (Ok path) = Ok path
-bad_path (Err fault) = Err (BadPath fault)
-
--- a value that is there, or the reply where it isn't
-abbrev pub or_reply : {A : Type 0} → Reply → Option A → Checked A
-or_reply reply None = Err reply
-or_reply reply (Some x) = Ok x
-
--- nothing is wrong, or the reply that says what is
-abbrev pub unless_reply : Option Reply → Checked (Unit {0})
-unless_reply None = Ok tt
-unless_reply (Some reply) = Err reply
-
--- the name is a path, which it stands for
+-- the path that the name stands for
 abbrev pub path_named : List ℕ → Checked (List ℕ)
-path_named name = bad_path (path_of name)
+path_named name = result_map_err BadPath (path_of name)
 
--- the caller is an identity of the policy, the first with this id
-abbrev pub caller : PolicyData → ℕ → Checked Identity
-caller policy who = or_reply Unkeyed (find (λ identity. identity.id == who) policy.identities)
+-- the identity that calls: the first with this id
+abbrev pub identity_of : PolicyData → ℕ → Checked Identity
+identity_of policy who = or_fault Unkeyed (find (λ identity. identity.id == who) policy.identities)
 
--- a denial for the missing right, where one is missing
-abbrev pub denied : List ℕ → Option ℕ → Option Reply
-denied path None = None
-denied path (Some right) = Some (Denied path right)
+-- the pipeline with this id: the first that has it
+abbrev pub pipeline_of : PolicyData → ℕ → Checked Pipeline
+pipeline_of policy id = or_fault (NoSuchPipeline id) (find (λ pipeline. pipeline.id == id) policy.pipelines)
 
--- its word on the path has every needed right
-abbrev pub permitted : Identity → List ℕ → ℕ → Checked (Unit {0})
-permitted identity path needed = unless_reply (denied path (missing_right (word_on path identity.grants) needed))
+-- nothing, where the identity has each needed right on the path; the refusal names the lowest that is missing
+abbrev pub rights_check : Identity → List ℕ → ℕ → Checked (Unit {0})
+rights_check identity path needed =
+    unless_fault (option_map (λ right. Denied path right) (missing_right (word_on path identity.grants) needed)) tt
 
--- the file is there
-abbrev pub file_at : FileMap → List ℕ → Checked (List ℕ)
-file_at files path = or_reply (NoSuchFile path) (get files path)
+-- the body of the file at the path
+abbrev pub body_at : FileMap → List ℕ → Checked (List ℕ)
+body_at files path = or_fault (NoSuchFile path) (get files path)
 
--- a file of this size may be kept
-abbrev pub sized : ℕ → Checked (Unit {0})
-sized size = unless_reply (if nat_lt 16777216 size then Some (TooLarge (min size (2 ^ 64 - 1))) else None)
+-- the most bytes of a file
+abbrev pub most_file : ℕ
+most_file = 16777216
 
--- the rights that a read, a write and an append need: fd_read; fd_write; fd_seek and fd_write
-abbrev pub read_rights : ℕ
-read_rights = word_of (1 ∷ [])
+-- nothing, where a file may have this size
+abbrev pub size_check : ℕ → Checked (Unit {0})
+size_check size = unless_fault (fault_if (nat_lt most_file size) (TooLarge (min size (2 ^ 64 - 1)))) tt
 
-abbrev pub write_rights : ℕ
-write_rights = word_of (6 ∷ [])
-
-abbrev pub append_rights : ℕ
-append_rights = word_of (2 ∷ 6 ∷ [])
+-- ---- what each call asks for
 
 -- the path of a name on which the caller has the needed rights
-abbrev pub reaching : PolicyData → ℕ → List ℕ → ℕ → Checked (List ℕ)
-reaching policy who name needed = path_named name >>= λ path. caller policy who >>= λ identity. permitted identity path needed >>= λ _. Ok path
+abbrev pub path_for : PolicyData → ℕ → List ℕ → ℕ → Checked (List ℕ)
+path_for policy who name needed = do
+  path ← path_named name  -- first, so that a bad name is told to callers without a key too
+  identity ← identity_of policy who
+  rights_check identity path needed
+  Ok path
 
 -- the body that a read answers
-abbrev pub reading : Origin → FileMap → ℕ → List ℕ → Checked (List ℕ)
-reading origin files who name = reaching origin.policy who name read_rights >>= file_at files
+abbrev pub body_for : Origin → FileMap → ℕ → List ℕ → Checked (List ℕ)
+body_for origin files who name = do
+  path ← path_for origin.policy who name read_rights  -- before the file, so that nobody learns what he may not read
+  body_at files path
 
--- the path of the file that a write of this size replaces or makes
-abbrev pub writing : Origin → ℕ → List ℕ → ℕ → Checked (List ℕ)
-writing origin who name size = reaching origin.policy who name write_rights >>= λ path. sized size >>= λ _. Ok path
+-- the path at which a write keeps a body of this size
+abbrev pub write_path : Origin → ℕ → List ℕ → ℕ → Checked (List ℕ)
+write_path origin who name size = do
+  path ← path_for origin.policy who name write_rights
+  size_check size
+  Ok path
 
 -- the bytes at a path, none where there is no file
 abbrev pub bytes_at : FileMap → List ℕ → List ℕ
 bytes_at files path = unwrap_or (get files path) []
 
--- the path of the file to which an append of this size adds
-abbrev pub appending : Origin → FileMap → ℕ → List ℕ → ℕ → Checked (List ℕ)
-appending origin files who name size =
-    reaching origin.policy who name append_rights >>= λ path. sized (length (bytes_at files path) + size) >>= λ _. Ok path
-
--- the pipeline of this id is listed
-abbrev pub listed : PolicyData → ℕ → Checked Pipeline
-listed policy id = or_reply (NoSuchPipeline id) (find (λ pipeline. pipeline.id == id) policy.pipelines)
+-- the path at which an append of this many bytes adds them
+abbrev pub append_path : Origin → FileMap → ℕ → List ℕ → ℕ → Checked (List ℕ)
+append_path origin files who name size = do
+  path ← path_for origin.policy who name append_rights
+  size_check (length (bytes_at files path) + size)  -- after the rights, since it tells the size of the file
+  Ok path
 
 -- the pipeline that the caller asks to run
-abbrev pub running : PolicyData → ℕ → ℕ → Checked Pipeline
-running policy who id = caller policy who >>= λ _. listed policy id
+abbrev pub pipeline_for : PolicyData → ℕ → ℕ → Checked Pipeline
+pipeline_for policy who id = do
+  identity_of policy who
+  pipeline_of policy id
 
--- What a call comes to: its reply and the files after it.
-abbrev pub Outcome : Type 0
-Outcome = Reply × FileMap
+-- ---- what a call comes to
 
--- a refused call changes nothing
-abbrev pub settled : {A : Type 0} → FileMap → (A → Outcome) → Checked A → Outcome
-settled files done (Ok x) = done x
-settled files done (Err reply) = (reply, files)
+-- What a call comes to: its reply, and the files after it.
+pub record Effect : Type 0 where
+  pub reply : Reply
+  pub files : FileMap
 
--- One step of the machine. A run of a listed pipeline is not made yet, which is answered as an absent keeper is.
-abbrev pub step : Origin → FileMap → ℕ → Call → Outcome
-step origin files who (calls.Read name) = settled files (λ body. (replies.Read body, files)) (reading origin files who name)
-step origin files who (calls.Write name body) = settled files (λ path. (Stored, insert files path body)) (writing origin who name (length body))
-step origin files who (calls.Append name body) =
-    settled files (λ path. (Stored, insert files path (bytes_at files path ++ body))) (appending origin files who name (length body))
-step origin files who (calls.Run pipeline) = settled files (λ _. (Unavailable, files)) (running origin.policy who pipeline)
-step origin files who calls.Hash = settled files (λ _. (PolicyHash origin.hash, files)) (caller origin.policy who)
+abbrev pub effect : Reply → FileMap → Effect
+effect reply files = record { reply = reply; files = files }
 
--- the keeper was there
-abbrev pub is_available : Reply → Bool
-is_available Unavailable = false
-is_available _ = true
+-- What a call comes to that passes its checks. A run of a listed pipeline is not made yet, and is answered as if the
+-- keeper of the files had failed.
+abbrev pub granted_effect : Origin → FileMap → ℕ → Call → Checked Effect
+granted_effect origin files who (calls.Read name) = do
+  body ← body_for origin files who name
+  Ok (effect (Read body) files)
+granted_effect origin files who (calls.Write name body) = do
+  path ← write_path origin who name (length body)
+  Ok (effect Stored (insert files path body))
+granted_effect origin files who (calls.Append name body) = do
+  path ← append_path origin files who name (length body)
+  Ok (effect Stored (insert files path (bytes_at files path ++ body)))
+granted_effect origin files who (calls.Run pipeline) = do
+  pipeline_for origin.policy who pipeline
+  Ok (effect Unavailable files)
+granted_effect origin files who calls.Hash = do
+  identity_of origin.policy who
+  Ok (effect (PolicyHash origin.hash) files)
 
--- memory did not run out
-abbrev pub has_memory : Reply → Bool
-has_memory replies.OutOfMemory = false
-has_memory _ = true
+-- what the checks let pass; a refused call changes nothing
+abbrev pub effect_of : FileMap → Checked Effect → Effect
+effect_of files (Ok after) = after
+effect_of files (Err refusal) = effect refusal files
 
--- A call that is answered so counts as made, and has its entry in the history: want of memory and a fault of the keeper
--- leave a call unmade.
-abbrev pub is_made : Reply → Bool
-is_made Unavailable = false
-is_made replies.OutOfMemory = false
-is_made _ = true
+-- One step of the machine: what a call comes to.
+abbrev pub step : Origin → FileMap → ℕ → Call → Effect
+step origin files who call = effect_of files (granted_effect origin files who call)
+
+-- ---- what a list of calls comes to
+
+-- What a list of calls comes to: a reply to each, in order, and the files after the last.
+pub record Replay : Type 0 where
+  pub replies : List Reply
+  pub files : FileMap
+
+-- what a list of calls, each with its identity, comes to from these files on: one step after another
+abbrev pub replay : Origin → FileMap → List (ℕ × Call) → Replay
+replay origin files [] = record { replies = []; files = files }
+replay origin files (asked ∷ others) =
+    let first = step origin files asked.0 asked.1 in
+    let rest = replay origin first.files others in
+    record { replies = first.reply ∷ rest.replies; files = rest.files }

@@ -1,14 +1,18 @@
 ghost use Rattle.std.specs.Prelude.{◌≡◌, [], ◌∷◌, ◌++◌, IfOk, OnErr, IsTrue, IsFalse};
-ghost use Rattle.vr_core.specs.Answers.{Gives};
-ghost use Rattle.vr_core.specs.History.{IsBook, Makes, Opens};
-ghost use Rattle.vr_core.specs.Machine.{reading, writing, appending, running, bytes_at, step, is_made, has_memory, is_available};
-ghost use Rattle.vr_core.specs.Plans.{IsPlanFor};
+ghost use Rattle.std.specs.FinMap.{insert};
+ghost use Rattle.vr_base.specs.Checks.{value_of, result_map};
+ghost use Rattle.vr_core.specs.History.{IsBook, Makes, Opens, entry};
+ghost use Rattle.vr_core.specs.Machine.{step, effect, granted_effect, body_for, write_path, append_path, pipeline_for, bytes_at};
+ghost use Rattle.vr_core.specs.Plans.{plan_effect};
+ghost use Rattle.vr_core.specs.Replies.{Gives, is_made, has_memory};
 
-use crate::checks::{check_caller, check_file, check_listed, check_path, check_size};
+use crate::checks::{check_caller, check_file, check_path, check_pipeline, check_size};
 use crate::files::Files;
 use std::alloc::Global;
 use std::marker::Model;
-use vr_base::{Bytes, Call, Entry, NoMemory, Path, Reply};
+use vr_base::{
+    APPEND_RIGHTS, Bytes, Call, Entry, NoMemory, Path, READ_RIGHTS, Reply, WRITE_RIGHTS,
+};
 use vr_policy_read::{Pipeline, Policy};
 
 /// The history of a runtime and the files after it. Contracts see where it began, the journal of its calls and the
@@ -23,27 +27,25 @@ pub struct Book {
 
 impl Model for Book {
     ghost use Rattle.std.specs.Coded.{codes};
-    ghost use Rattle.vr_core.specs.History.{BookState, IsBook};
-    ghost use Rattle.vr_core.specs.State.{no_files, coded_files};
+    ghost use Rattle.vr_core.specs.History.{BookState, IsBook, book_state};
+    ghost use Rattle.vr_core.specs.State.{coded_files};
 
     ghost Value = { BookState };
 
     ghost coded = { Prim.hlevel (codes, coded_files) };
 
-    ghost view = { λ b. record { origin = record { policy = b.policy; hash = b.hash; opening = no_files }; journal = b.journal.items; files = b.files } };
+    ghost view = { λ b. book_state b.policy b.hash b.journal.items b.files };
 
-    ghost invariant = { λ b. IsBook (record { origin = record { policy = b.policy; hash = b.hash; opening = no_files }; journal = b.journal.items; files = b.files }) };
+    ghost invariant = { λ b. IsBook (book_state b.policy b.hash b.journal.items b.files) };
 }
 
-/// What is to be done for a call, all that can want memory being made already.
+/// What is to be done for a call that its checks let pass. What needs memory for it was made already.
 #[derive(Drop)]
 enum Plan {
-    /// To answer, and to keep a copy of the answer in the journal.
-    Answer { reply: Reply, kept: Reply },
-    /// To keep a file, which is answered as stored.
+    /// To answer, and to change no file.
+    Answer(Reply),
+    /// To keep a body at a path, which is answered as stored.
     Store { path: Path, body: Bytes },
-    /// Nothing: runs of pipelines are not made yet.
-    Nothing,
 }
 
 impl Book {
@@ -63,8 +65,10 @@ impl Book {
     /// Makes a call of an identity, which came by a seat, and answers it. A call that is answered `OutOfMemory` or
     /// `Unavailable` was not made, and changes nothing. Runs of listed pipelines are not made yet.
     pub fn step(&mut self, seat: u32, who: u32, call: Call) -> Reply
-        ensures reply { IsTrue (has_memory result) → step self.old.origin self.old.files who call ≡ (result, self.new.files) }
-        ensures entry { IsTrue (is_made result) → self.new.journal ≡ self.old.journal ++ record { seat = seat; who = who; call = call; reply = result } ∷ [] }
+        ensures reply { IsTrue (has_memory result)
+            → step self.old.origin self.old.files who call ≡ effect result self.new.files }
+        ensures made { IsTrue (is_made result)
+            → self.new.journal ≡ self.old.journal ++ entry seat who call result ∷ [] }
         ensures unmade { IsFalse (is_made result) → self.new ≡ self.old }
         ensures origin { self.new.origin ≡ self.old.origin }
         ensures book { IsBook self.new }
@@ -103,105 +107,131 @@ impl Book {
         ensures err { OnErr result (self.new ≡ self.old) }
         ensures book { IsBook self.new }
     {
-        match self.plan(who, &call)? {
-            Plan::Answer { reply, kept } => {
-                self.journal.push(Entry {
-                    seat,
-                    who,
-                    call,
-                    reply: kept,
-                })?;
-                Ok(reply)
-            }
-            Plan::Store { path, body } => {
-                self.journal.reserve(1)?;
-                self.files.put(path, body)?;
-                self.journal
-                    .push(Entry {
-                        seat,
-                        who,
-                        call,
-                        reply: Reply::Stored,
-                    })
-                    .unwrap();
-                Ok(Reply::Stored)
-            }
-            Plan::Nothing => Ok(Reply::Unavailable),
+        match self.plan(who, &call) {
+            Ok(Plan::Store { path, body }) => self.store(seat, who, call, path, body),
+            Ok(Plan::Answer(reply)) => self.answer(seat, who, call, reply),
+            Err(refusal) => self.answer(seat, who, call, refusal),
         }
     }
 
-    /// What is to be done for the call.
-    #[tactic(auto, using(crate::proofs::Refusals::refused, crate::proofs::Refusals::refusal_is_available))]
-    fn plan(&self, who: u32, call: &Call) -> Result<Plan, NoMemory>
-        ensures { IfOk result (IsPlanFor self.now.origin self.now.files who call.now) }
+    /// Answers a call, which changes no file, and adds its entry where it was made.
+    fn answer(&mut self, seat: u32, who: u32, call: Call, reply: Reply) -> Result<Reply, NoMemory>
+        requires { IsTrue (has_memory reply)
+            → step self.old.origin self.old.files who call ≡ effect reply self.old.files }
+        ensures ok { IfOk result (Makes self.old self.new seat who call) }
+        ensures err { OnErr result (self.new ≡ self.old) }
+        ensures book { IsBook self.new }
+    {
+        let journal = &mut self.journal;
+        if is_made(&reply) {
+            let kept = reply.copy()?;
+            journal.push(Entry {
+                seat,
+                who,
+                call,
+                reply: kept,
+            })?;
+        }
+        Ok(reply)
+    }
+
+    /// Keeps a body at a path, and adds the entry of the call that asks for it.
+    fn store(
+        &mut self,
+        seat: u32,
+        who: u32,
+        call: Call,
+        path: Path,
+        body: Bytes,
+    ) -> Result<Reply, NoMemory>
+        requires { step self.old.origin self.old.files who call
+            ≡ effect Reply.Stored (insert self.old.files path body) }
+        ensures ok { IfOk result (Makes self.old self.new seat who call) }
+        ensures err { OnErr result (self.new ≡ self.old) }
+        ensures book { IsBook self.new }
+    {
+        self.journal.reserve(1)?;
+        self.files.put(path, body)?;
+        let entry = Entry {
+            seat,
+            who,
+            call,
+            reply: Reply::Stored,
+        };
+        self.journal.push(entry).unwrap();
+        Ok(Reply::Stored)
+    }
+
+    /// What is to be done for the call, or the refusal of the first check that fails.
+    fn plan(&self, who: u32, call: &Call) -> Result<Plan, Reply>
+        ensures { Gives (result_map (plan_effect self.now.files) result)
+            (granted_effect self.now.origin self.now.files who call.now) }
     {
         let alloc = *self.journal.allocator();
         match call {
-            Call::Read { name } => match self.read(alloc, who, name.as_slice()) {
-                Ok(body) => Plan::answer(Reply::Read { body: body.copy()? }),
-                Err(refusal) => Plan::answer(refusal),
-            },
+            Call::Read { name } => {
+                let body = self.read(alloc, who, name.as_slice())?;
+                Ok(Plan::Answer(Reply::Read {
+                    body: body.copy().or(Err(Reply::OutOfMemory))?,
+                }))
+            }
             Call::Write { name, body } => {
-                match self.write(alloc, who, name.as_slice(), body.as_slice().len()) {
-                    Ok(path) => Ok(Plan::Store {
-                        path,
-                        body: body.copy()?,
-                    }),
-                    Err(refusal) => Plan::answer(refusal),
-                }
+                let path = self.write(alloc, who, name.as_slice(), body.as_slice().len())?;
+                Ok(Plan::Store {
+                    path,
+                    body: body.copy().or(Err(Reply::OutOfMemory))?,
+                })
             }
             Call::Append { name, body } => {
-                match self.append(alloc, who, name.as_slice(), body.as_slice().len()) {
-                    Ok(path) => {
-                        let body = self.extended(alloc, &path, body.as_slice())?;
-                        Ok(Plan::Store { path, body })
-                    }
-                    Err(refusal) => Plan::answer(refusal),
-                }
+                let path = self.append(alloc, who, name.as_slice(), body.as_slice().len())?;
+                let body = self
+                    .extended(alloc, &path, body.as_slice())
+                    .or(Err(Reply::OutOfMemory))?;
+                Ok(Plan::Store { path, body })
             }
-            Call::Run { pipeline } => match self.run(who, *pipeline) {
-                Ok(_) => Ok(Plan::Nothing),
-                Err(refusal) => Plan::answer(refusal),
-            },
-            Call::Hash => match check_caller(&self.policy, who) {
-                Ok(_) => Plan::answer(Reply::PolicyHash { digits: self.hash }),
-                Err(refusal) => Plan::answer(refusal),
-            },
+            Call::Run { pipeline } => {
+                self.run(who, *pipeline)?;
+                Ok(Plan::Answer(Reply::Unavailable))
+            }
+            Call::Hash => {
+                check_caller(&self.policy, who)?;
+                Ok(Plan::Answer(Reply::PolicyHash { digits: self.hash }))
+            }
         }
     }
 
     /// The body that a read answers.
     fn read(&self, alloc: Global, who: u32, name: &[u8]) -> Result<&Bytes, Reply>
-        ensures { Gives (λ body. body.now) result (reading self.now.origin self.now.files who name.now) }
+        ensures { Gives (value_of result) (body_for self.now.origin self.now.files who name.now) }
     {
-        let path = check_path(alloc, &self.policy, who, name, READ)?;
+        let path = check_path(alloc, &self.policy, who, name, READ_RIGHTS)?;
         check_file(&self.files, &path)
     }
 
     /// The path at which a write keeps its body.
     fn write(&self, alloc: Global, who: u32, name: &[u8], size: usize) -> Result<Path, Reply>
-        ensures { Gives (λ path. path) result (writing self.now.origin who name.now size) }
+        ensures { Gives result (write_path self.now.origin who name.now size) }
     {
-        let path = check_path(alloc, &self.policy, who, name, WRITE)?;
+        let path = check_path(alloc, &self.policy, who, name, WRITE_RIGHTS)?;
         check_size(size)?;
         Ok(path)
     }
 
     /// The path of the file to which an append adds.
     fn append(&self, alloc: Global, who: u32, name: &[u8], size: usize) -> Result<Path, Reply>
-        ensures { Gives (λ path. path) result (appending self.now.origin self.now.files who name.now size) }
+        ensures { Gives result (append_path self.now.origin self.now.files who name.now size) }
     {
-        let path = check_path(alloc, &self.policy, who, name, APPEND)?;
+        let path = check_path(alloc, &self.policy, who, name, APPEND_RIGHTS)?;
         check_size(self.bytes_at(&path).len().saturating_add(size))?;
         Ok(path)
     }
 
     /// The pipeline that the caller asks to run.
     fn run(&self, who: u32, pipeline: u32) -> Result<&Pipeline, Reply>
-        ensures { Gives (λ pipeline. pipeline.now) result (running self.now.origin.policy who pipeline) }
+        ensures { Gives (value_of result) (pipeline_for self.now.origin.policy who pipeline) }
     {
         check_caller(&self.policy, who)?;
-        check_listed(&self.policy, pipeline)
+        check_pipeline(&self.policy, pipeline)
     }
 
     /// The bytes at the path, none where there is no file.
@@ -214,7 +244,7 @@ impl Book {
         }
     }
 
-    /// The bytes at the path, and the piece behind them.
+    /// The bytes at the path, and the piece after them.
     fn extended(&self, alloc: Global, path: &Path, piece: &[u8]) -> Result<Bytes, NoMemory>
         ensures { IfOk result (λ body. body ≡ bytes_at self.now.files path.now ++ piece.now) }
     {
@@ -224,25 +254,9 @@ impl Book {
     }
 }
 
-/// The right to read a file.
-const READ: u32 = 1 << 1;
-
-/// The right to write a file.
-const WRITE: u32 = 1 << 6;
-
-/// The rights to add to a file: to seek in it, and to write it.
-const APPEND: u32 = 1 << 2 | 1 << 6;
-
-impl Plan {
-    /// To answer so. A reply for want of memory is no plan.
-    fn answer(reply: Reply) -> Result<Plan, NoMemory>
-        requires { IsTrue (is_available reply) }
-        ensures { IfOk result (λ plan. (plan ≡ Plan.Answer reply reply) × IsTrue (is_made reply)) }
-    {
-        if let Reply::OutOfMemory = reply {
-            return Err(NoMemory);
-        }
-        let kept = reply.copy()?;
-        Ok(Plan::Answer { reply, kept })
-    }
+/// Whether a call with this reply was made.
+fn is_made(reply: &Reply) -> bool
+    ensures { result ≡ is_made reply.now }
+{
+    !matches!(reply, Reply::Unavailable | Reply::OutOfMemory)
 }

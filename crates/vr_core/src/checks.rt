@@ -1,8 +1,9 @@
 ghost use Rattle.std.specs.Prelude.{◌≡◌, ◌==◌, find};
 ghost use Rattle.std.specs.Option.{option_copied};
-ghost use Rattle.vr_base.specs.Rights.{masked};
-ghost use Rattle.vr_core.specs.Answers.{Gives};
-ghost use Rattle.vr_core.specs.Machine.{path_named, caller, reaching, permitted, file_at, sized, listed};
+ghost use Rattle.vr_base.specs.Checks.{value_of};
+ghost use Rattle.vr_base.specs.Rights.{known_rights};
+ghost use Rattle.vr_core.specs.Machine.{path_named, identity_of, pipeline_of, rights_check, body_at, size_check, path_for};
+ghost use Rattle.vr_core.specs.Replies.{Gives};
 
 use crate::files::Files;
 use std::alloc::Global;
@@ -14,7 +15,7 @@ pub const MOST_FILE: usize = 16_777_216;
 
 /// The path that a call's name stands for.
 pub fn check_name(alloc: Global, name: &[u8]) -> Result<Path, Reply>
-    ensures { Gives (λ path. path) result (path_named name.now) }
+    ensures { Gives result (path_named name.now) }
 {
     match parse_path(alloc, name) {
         Ok(path) => Ok(path),
@@ -31,7 +32,7 @@ fn find_identity(identities: &[Identity], who: u32) -> Option<&Identity>
 
 /// The identity that calls.
 pub fn check_caller(policy: &Policy, who: u32) -> Result<&Identity, Reply>
-    ensures { Gives (λ identity. identity.now) result (caller policy.now who) }
+    ensures { Gives (value_of result) (identity_of policy.now who) }
 {
     match find_identity(policy.identities.as_slice(), who) {
         Some(identity) => Ok(identity),
@@ -41,7 +42,7 @@ pub fn check_caller(policy: &Policy, who: u32) -> Result<&Identity, Reply>
 
 /// That the identity has the needed rights on the path.
 pub fn check_rights(identity: &Identity, path: &Path, needed: RightsWord) -> Result<(), Reply>
-    ensures { Gives (λ _. tt) result (permitted identity.now path.now needed) }
+    ensures { Gives result (rights_check identity.now path.now needed) }
 {
     match identity.grants.word_on(path).missing(needed) {
         None => Ok(()),
@@ -60,7 +61,7 @@ pub fn check_path(
     name: &[u8],
     needed: u32,
 ) -> Result<Path, Reply>
-    ensures { Gives (λ path. path) result (reaching policy.now who name.now (masked needed)) }
+    ensures { Gives result (path_for policy.now who name.now (known_rights needed)) }
 {
     let path = check_name(alloc, name)?;
     let identity = check_caller(policy, who)?;
@@ -70,7 +71,7 @@ pub fn check_path(
 
 /// The body of the file at the path.
 pub fn check_file<'a>(files: &'a Files, path: &Path) -> Result<&'a Bytes, Reply>
-    ensures { Gives (λ body. body.now) result (file_at files.now path.now) }
+    ensures { Gives (value_of result) (body_at files.now path.now) }
 {
     match files.get(path) {
         Some(body) => Ok(body),
@@ -83,7 +84,7 @@ pub fn check_file<'a>(files: &'a Files, path: &Path) -> Result<&'a Bytes, Reply>
 
 /// That a file may have this size.
 pub fn check_size(size: usize) -> Result<(), Reply>
-    ensures { Gives (λ _. tt) result (sized size) }
+    ensures { Gives result (size_check size) }
 {
     if size > MOST_FILE {
         Err(Reply::TooLarge { size: size as u64 })
@@ -99,8 +100,8 @@ fn find_pipeline(pipelines: &[Pipeline], id: u32) -> Option<&Pipeline>
 }
 
 /// The pipeline with the id.
-pub fn check_listed(policy: &Policy, id: u32) -> Result<&Pipeline, Reply>
-    ensures { Gives (λ pipeline. pipeline.now) result (listed policy.now id) }
+pub fn check_pipeline(policy: &Policy, id: u32) -> Result<&Pipeline, Reply>
+    ensures { Gives (value_of result) (pipeline_of policy.now id) }
 {
     match find_pipeline(policy.pipelines.as_slice(), id) {
         Some(pipeline) => Ok(pipeline),

@@ -1,10 +1,11 @@
 -- The first fault of a text.
-use Rattle.std.specs.Prelude.{◌≡◌, ℕ, ◌≤◌, ◌-◌, ◌^◌, min, List, [], ◌∷◌, ◌++◌, length, All, ◌⊎◌}
+use Rattle.std.specs.Prelude.{◌≡◌, ℕ, ◌≤◌, ◌-◌, ◌^◌, min, List, [], ◌∷◌, ◌++◌, length, All, ◌⊎◌, Result}
+use Rattle.vr_base.specs.Checks.{Told, nothing, exactly, never, GivesBy}
 use Rattle.vr_pipe.specs.declared.faults.PipeFault.{PipeFault}
 use Rattle.vr_pipe.specs.declared.faults.PipeFault.TheVariants.{Word, Expected, TooDeep, TooMany, OutOfMemory}
-use Rattle.vr_pipe.specs.Trees.{Pipeline}
+use Rattle.vr_pipe.specs.Trees.{PipeTree}
 use Rattle.vr_pipe.specs.Pieces.{Piece, pieces_at, without_offsets, IsPathWord, programs_in, ifs_in}
-use Rattle.vr_pipe.specs.Grammar.{IsSequence}
+use Rattle.vr_pipe.specs.Grammar.{IsSequence, most_programs, most_ifs}
 
 -- an offset, or the greatest number of 32 bits where it is greater
 abbrev pub capped : ℕ → ℕ
@@ -12,31 +13,32 @@ capped at = min at (2 ^ 32 - 1)
 
 -- the pieces are a whole pipeline's, whatever its words and limits
 abbrev pub IsWhole : List Piece → Type 0
-IsWhole ps = (e : Pipeline) × IsSequence e ps []
+IsWhole ps = (e : PipeTree) × IsSequence e ps []
 
 -- some pipeline begins with the pieces
-abbrev pub IsFront : List Piece → Type 0
-IsFront ps = (more : List Piece) × IsWhole (ps ++ more)
+abbrev pub IsPrefix : List Piece → Type 0
+IsPrefix ps = (more : List Piece) × IsWhole (ps ++ more)
 
--- no more than 64 program places and 64 ifs
+-- there are no more program places and ifs than there may be
 pub record IsWithin (ps : List Piece) : Type 0 where
-  pub programs : length (programs_in ps) ≤ 64
-  pub ifs : ifs_in ps ≤ 64
+  pub programs : length (programs_in ps) ≤ most_programs
+  pub ifs : ifs_in ps ≤ most_ifs
 
 -- nothing is wrong with the first pieces
 pub record IsFine (ps : List Piece) : Type 0 where
-  pub front : IsFront ps
+  pub prefix : IsPrefix ps
   pub words : All IsPathWord ps
   pub within : IsWithin ps
 
--- What is wrong with a piece at an offset, behind pieces with nothing wrong: no pipeline goes on with it; else it is a
+-- What is wrong with a piece at an offset, after pieces with nothing wrong: no pipeline goes on with it; else it is a
 -- word and no path; else it is one more program place or if than there may be. Braces that nest too deep come between
 -- these two by their order, and are never the first fault: each level has an if of its own, so the 65th if stands before
 -- the 65th level.
 abbrev pub IsWrong : PipeFault → List Piece → ℕ → Piece → Type 0
-IsWrong (Expected n) before at p = (n ≡ capped at) × (IsFront (before ++ p ∷ []) → ⊥)
-IsWrong (Word n) before at p = (n ≡ capped at) × IsFront (before ++ p ∷ []) × (IsPathWord p → ⊥)
-IsWrong (TooMany n) before at p = (n ≡ capped at) × IsFront (before ++ p ∷ []) × IsPathWord p × (IsWithin (before ++ p ∷ []) → ⊥)
+IsWrong (Expected n) before at p = (n ≡ capped at) × (IsPrefix (before ++ p ∷ []) → ⊥)
+IsWrong (Word n) before at p = (n ≡ capped at) × IsPrefix (before ++ p ∷ []) × (IsPathWord p → ⊥)
+IsWrong (TooMany n) before at p =
+    (n ≡ capped at) × IsPrefix (before ++ p ∷ []) × IsPathWord p × (IsWithin (before ++ p ∷ []) → ⊥)
 IsWrong (TooDeep n) before at p = ⊥
 IsWrong OutOfMemory before at p = ⊥
 
@@ -53,17 +55,26 @@ pub record EndsEarly (length : ℕ) (all : List (ℕ × Piece)) (fault : PipeFau
   pub early : IsWhole (without_offsets all) → ⊥
 
 -- the first fault of a text of a length with these pieces
-abbrev pub FaultIn : ℕ → List (ℕ × Piece) → PipeFault → Type 0
-FaultIn length all fault = ((at : ℕ) × (p : Piece) × (before : List (ℕ × Piece)) × (after : List (ℕ × Piece)) × StopsAt all fault at p before after) ⊎ EndsEarly length all fault
+abbrev pub HasFaultIn : ℕ → List (ℕ × Piece) → PipeFault → Type 0
+HasFaultIn length all fault =
+    ((at : ℕ) × (p : Piece) × (before : List (ℕ × Piece)) × (after : List (ℕ × Piece)) × StopsAt all fault at p before after)
+    ⊎ EndsEarly length all fault
 
 -- the first fault of a text: the one with the least offset, and at one offset the first by the order of its kind
 abbrev pub HasFault : List ℕ → PipeFault → Type 0
-HasFault text fault = FaultIn (length text) (pieces_at text) fault
+HasFault text fault = HasFaultIn (length text) (pieces_at text) fault
 
--- a fault that was answered is the text's first, but for want of memory
-abbrev pub Refuses : List ℕ → PipeFault → Type 0
-Refuses text OutOfMemory = Unit {0}
-Refuses text (Word n) = HasFault text (Word n)
-Refuses text (Expected n) = HasFault text (Expected n)
-Refuses text (TooDeep n) = HasFault text (TooDeep n)
-Refuses text (TooMany n) = HasFault text (TooMany n)
+-- what a fault that was answered tells of the definition's answer
+abbrev pub told : PipeFault → Told PipeFault
+told OutOfMemory = nothing
+told fault = exactly fault
+
+-- What was returned is the answer, unless memory ran out.
+abbrev pub Gives : {A : Type 0} → Result A PipeFault → Result A PipeFault → Type 0
+Gives result answer = GivesBy told result answer
+
+-- The told fault is the text's first.
+abbrev pub IsFirstFault : List ℕ → Told PipeFault → Type 0
+IsFirstFault text nothing = Unit {0}
+IsFirstFault text (exactly fault) = HasFault text fault
+IsFirstFault text never = ⊥

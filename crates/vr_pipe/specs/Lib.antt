@@ -1,8 +1,9 @@
-pub mod Trees
-pub mod Pieces
-pub mod Tokens
-pub mod Grammar
 pub mod Faults
-pub mod Machine
-pub mod Answers
+pub mod Found
+pub mod Grammar
+pub mod Parser
+pub mod Pieces
 pub mod Pipes
+pub mod Signs
+pub mod Tokens
+pub mod Trees

@@ -2,17 +2,13 @@
 #![tactic(auto)]
 
 mod faults;
-mod laws;
 mod parsing;
 mod pipes;
 mod printing;
-#[cfg(test)]
-mod tests;
 mod tokens;
 mod trees;
 
 pub use faults::PipeFault;
-pub use laws::pipe_laws;
 pub use pipes::{Pipe, parse_pipe};
 pub use printing::print_pipe;
 pub use trees::Tree;

@@ -1,12 +1,12 @@
 ghost use Rattle.std.specs.Prelude.{◌≡◌, ℕ, ◌∷◌, ◌<◌, ◌+◌, ◌^◌, [], None, Some, Ok, Err, nat_lt, length, IfOk, IfSome, MatchOption, OnOk, true, false, List, option_and_then, if◌then◌else◌};
-ghost use Rattle.vr_base.specs.Names.{normalised};
-ghost use Rattle.vr_pipe.specs.Faults.{capped};
+ghost use Rattle.vr_base.specs.Checks.{result_map};
+ghost use Rattle.vr_base.specs.Names.{normal_form};
+ghost use Rattle.vr_pipe.specs.Faults.{capped, Gives};
 ghost use Rattle.vr_pipe.specs.Tokens.{piece_of};
-ghost use Rattle.vr_pipe.specs.declared.faults.PipeFault.TheVariants.{TooMany};
+ghost use Rattle.vr_pipe.specs.Found.{nothing_found, word_at, with_program, with_test, before_if};
 ghost use Rattle.vr_pipe.specs.Pieces.{closing};
 ghost use Rattle.vr_pipe.specs.declared.parsing.Frame.{Frame};
-ghost use Rattle.vr_pipe.specs.Machine.{joined, closed, braced, opened, whole_tree, placing, after_place, next, end_of, word_at, with_program, with_test, advanced, advance, finished, at_start};
-ghost use Rattle.vr_pipe.specs.Answers.{Gives, state_of, TakesFed};
+ghost use Rattle.vr_pipe.specs.Parser.{join, close, inside_focus, open_brace, whole_tree, place, after_place, next, end_of, state_with, advance, finish, at_start, state_of, PopsFed, GivesState};
 
 use crate::faults::PipeFault;
 use crate::tokens::Token;
@@ -20,7 +20,7 @@ use vr_base::{NoMemory, Path, PathFault, parse_path};
 pub const MOST_PROGRAMS: usize = 64;
 
 /// The most `if`s of a pipeline.
-pub const MOST_TESTS: usize = 64;
+pub const MOST_IFS: usize = 64;
 
 /// What stands open round the place that is read.
 #[derive(Debug, Drop)]
@@ -35,7 +35,7 @@ pub enum Frame {
     Other(Path, Tree),
 }
 
-/// What was read last, behind the open frames.
+/// What was read last, inside the open frames.
 #[derive(Debug, Drop)]
 pub enum Focus {
     /// A place must come.
@@ -97,15 +97,16 @@ impl Frames {
     }
 
     fn pop(&mut self) -> Option<Frame>
-        ensures { MatchOption result ((self.old ≡ []) × (self.new ≡ [])) (λ frame. self.old ≡ frame ∷ self.new) }
+        ensures { MatchOption result ((self.old ≡ []) × (self.new ≡ []))
+            (λ frame. self.old ≡ frame ∷ self.new) }
     {
         self.items.pop()
     }
 
     /// Takes off a place that is fed into what comes next, if one is the innermost.
     fn pop_fed(&mut self) -> Result<Option<Tree>, NoMemory>
-        ensures taken { IfOk result (TakesFed self.old self.new) }
-        ensures shorter { IfOk result (λ place. IfSome place (λ p. length self.new < length self.old)) }
+        ensures taken { IfOk result (PopsFed self.old self.new) }
+        ensures shorter { IfOk result (λ fed. IfSome fed (λ _. length self.new < length self.old)) }
     {
         match self.pop() {
             Some(Frame::Fed(place)) => Ok(Some(place)),
@@ -126,7 +127,7 @@ pub struct Paths {
 }
 
 impl Model for Paths {
-    ghost use Rattle.vr_pipe.specs.Machine.{Found};
+    ghost use Rattle.vr_pipe.specs.Found.{Found};
 
     ghost Value = { Found };
 
@@ -147,7 +148,7 @@ fn expected(at: usize) -> PipeFault
 
 impl Paths {
     fn new(alloc: Global) -> Paths
-        ensures { result ≡ record { programs = []; tests = [] } }
+        ensures { result ≡ nothing_found }
     {
         Paths {
             programs: Vec::new(alloc),
@@ -164,7 +165,7 @@ impl Paths {
     }
 
     fn add_program(&mut self, at: usize, path: &Path) -> Result<(), PipeFault>
-        ensures { Gives (λ _. self.new) result (with_program at self.old path.now) }
+        ensures { Gives (result_map (λ _. self.new) result) (with_program at self.old path.now) }
     {
         if self.programs.len() >= MOST_PROGRAMS {
             return Err(PipeFault::TooMany(capped(at)));
@@ -182,9 +183,9 @@ impl Paths {
 
     /// Whether one more `if` may come at an offset.
     fn check_tests(&self, at: usize) -> Result<(), PipeFault>
-        ensures { Gives (λ _. self.now) result (if nat_lt (length self.now.tests) 64 then Ok self.now else Err (TooMany (capped at))) }
+        ensures { Gives (result_map (λ _. self.now) result) (before_if at self.now) }
     {
-        if self.tests.len() >= MOST_TESTS {
+        if self.tests.len() >= MOST_IFS {
             return Err(PipeFault::TooMany(capped(at)));
         }
         Ok(())
@@ -193,8 +194,8 @@ impl Paths {
 
 /// The path that a word at an offset stands for.
 fn path_at(alloc: Global, at: usize, word: &[u8]) -> Result<Path, PipeFault>
-    ensures given { Gives (λ path. path) result (word_at at word.now) }
-    ensures normalised { IfOk result (λ path. path ≡ normalised word.now) }
+    ensures given { Gives result (word_at at word.now) }
+    ensures normal { IfOk result (λ path. path ≡ normal_form word.now) }
 {
     match parse_path(alloc, word) {
         Ok(path) => Ok(path),
@@ -222,7 +223,7 @@ fn sequence(alloc: Global, first: Tree, second: Tree) -> Result<Tree, NoMemory>
 }
 
 /// `if path { taken }`
-fn test(alloc: Global, path: Path, taken: Tree) -> Result<Tree, NoMemory>
+fn if_then(alloc: Global, path: Path, taken: Tree) -> Result<Tree, NoMemory>
     ensures { IfOk result (λ tree. tree ≡ Tree.If path taken None) }
 {
     let taken = Boxed::new(alloc, taken)?;
@@ -230,7 +231,7 @@ fn test(alloc: Global, path: Path, taken: Tree) -> Result<Tree, NoMemory>
 }
 
 /// `if path { taken } else { other }`
-fn choice(alloc: Global, path: Path, taken: Tree, other: Tree) -> Result<Tree, NoMemory>
+fn if_else(alloc: Global, path: Path, taken: Tree, other: Tree) -> Result<Tree, NoMemory>
     ensures { IfOk result (λ tree. tree ≡ Tree.If path taken (Some other)) }
 {
     let taken = Boxed::new(alloc, taken)?;
@@ -240,7 +241,7 @@ fn choice(alloc: Global, path: Path, taken: Tree, other: Tree) -> Result<Tree, N
 
 /// The feed whose last place this is.
 fn join(alloc: Global, last: Tree, frames: &mut Frames) -> Result<Tree, NoMemory>
-    ensures { IfOk result (λ tree. joined last frames.old ≡ (tree, frames.new)) }
+    ensures { IfOk result (λ tree. join last frames.old ≡ (tree, frames.new)) }
 {
     let mut tree = last;
     while let Some(first) = frames.pop_fed()? {
@@ -251,7 +252,7 @@ fn join(alloc: Global, last: Tree, frames: &mut Frames) -> Result<Tree, NoMemory
 
 /// What the sequence whose last place this is makes whole.
 fn close(alloc: Global, last: Tree, frames: &mut Frames) -> Result<Closed, NoMemory>
-    ensures { IfOk result (λ whole. closed last frames.old ≡ (whole, frames.new)) }
+    ensures { IfOk result (λ whole. close last frames.old ≡ (whole, frames.new)) }
 {
     let mut tree = last;
     while let Some(frame) = frames.pop() {
@@ -260,7 +261,7 @@ fn close(alloc: Global, last: Tree, frames: &mut Frames) -> Result<Closed, NoMem
             Frame::Before(first) => tree = sequence(alloc, first, tree)?,
             Frame::Taken(path) => return Ok(Closed::Inside(Focus::Branch(path, tree))),
             Frame::Other(path, taken) => {
-                let place = choice(alloc, path, taken, tree)?;
+                let place = if_else(alloc, path, taken, tree)?;
                 return Ok(Closed::Inside(Focus::Placed(place)));
             }
         }
@@ -284,7 +285,8 @@ fn place(
     at: usize,
     token: Token<'_>,
 ) -> Result<Parser, PipeFault>
-    ensures { Gives state_of result (advanced at false paths (piece_of token.entry) (placing frames (piece_of token.entry))) }
+    ensures { let piece = piece_of token.entry in
+        GivesState result (state_with at false paths piece (place frames piece)) }
 {
     match token {
         Token::Name(word) => {
@@ -316,7 +318,8 @@ fn test_path(
     at: usize,
     token: Token<'_>,
 ) -> Result<Parser, PipeFault>
-    ensures { Gives state_of result (advanced at true paths (piece_of token.entry) (next Focus.Test frames (piece_of token.entry))) }
+    ensures { let piece = piece_of token.entry in
+        GivesState result (state_with at true paths piece (next Focus.Test frames piece)) }
 {
     match token {
         Token::Name(word) => {
@@ -340,7 +343,8 @@ fn open_brace(
     at: usize,
     token: Token<'_>,
 ) -> Result<Parser, PipeFault>
-    ensures { Gives state_of result (advanced at false paths (piece_of token.entry) (opened frame frames (piece_of token.entry))) }
+    ensures { let piece = piece_of token.entry in
+        GivesState result (state_with at false paths piece (open_brace frame frames piece)) }
 {
     match token {
         Token::Open => {
@@ -355,7 +359,7 @@ fn open_brace(
     }
 }
 
-/// A brace that closes behind the last place of a sequence.
+/// A brace that closes after the last place of a sequence.
 fn close_brace(
     alloc: Global,
     last: Tree,
@@ -363,7 +367,7 @@ fn close_brace(
     paths: Paths,
     at: usize,
 ) -> Result<Parser, PipeFault>
-    ensures { Gives state_of result (advanced at false paths closing (braced (closed last frames))) }
+    ensures { GivesState result (state_with at false paths closing (inside_focus (close last frames))) }
 {
     match close(alloc, last, &mut frames)? {
         Closed::Inside(focus) => Ok(Parser {
@@ -375,8 +379,8 @@ fn close_brace(
     }
 }
 
-/// Behind a place.
-fn behind_place(
+/// After a place.
+fn after_place(
     alloc: Global,
     last: Tree,
     mut frames: Frames,
@@ -384,7 +388,8 @@ fn behind_place(
     at: usize,
     token: Token<'_>,
 ) -> Result<Parser, PipeFault>
-    ensures { Gives state_of result (advanced at false paths (piece_of token.entry) (after_place last frames (piece_of token.entry))) }
+    ensures { let piece = piece_of token.entry in
+        GivesState result (state_with at false paths piece (after_place last frames piece)) }
 {
     match token {
         Token::Bar => {
@@ -408,8 +413,8 @@ fn behind_place(
     }
 }
 
-/// Behind a semicolon.
-fn behind_semicolon(
+/// After a semicolon.
+fn after_semicolon(
     alloc: Global,
     first: Tree,
     mut frames: Frames,
@@ -417,7 +422,8 @@ fn behind_semicolon(
     at: usize,
     token: Token<'_>,
 ) -> Result<Parser, PipeFault>
-    ensures { Gives state_of result (advanced at false paths (piece_of token.entry) (next (Focus.Ended first) frames (piece_of token.entry))) }
+    ensures { let piece = piece_of token.entry in
+        GivesState result (state_with at false paths piece (next (Focus.Ended first) frames piece)) }
 {
     match token {
         Token::Close => close_brace(alloc, first, frames, paths, at),
@@ -428,8 +434,8 @@ fn behind_semicolon(
     }
 }
 
-/// Behind the braces of an `if`.
-fn behind_branch(
+/// After the braces of an `if`.
+fn after_branch(
     alloc: Global,
     path: Path,
     taken: Tree,
@@ -438,7 +444,8 @@ fn behind_branch(
     at: usize,
     token: Token<'_>,
 ) -> Result<Parser, PipeFault>
-    ensures { Gives state_of result (advanced at false paths (piece_of token.entry) (next (Focus.Branch path taken) frames (piece_of token.entry))) }
+    ensures { let piece = piece_of token.entry in
+        GivesState result (state_with at false paths piece (next (Focus.Branch path taken) frames piece)) }
 {
     match token {
         Token::Else => Ok(Parser {
@@ -447,20 +454,21 @@ fn behind_branch(
             paths,
         }),
         _ => {
-            let last = test(alloc, path, taken)?;
-            behind_place(alloc, last, frames, paths, at, token)
+            let last = if_then(alloc, path, taken)?;
+            after_place(alloc, last, frames, paths, at, token)
         }
     }
 }
 
 /// The last place of a sequence that ends, if it may end.
 fn last_place(alloc: Global, focus: Focus) -> Result<Option<Tree>, NoMemory>
-    ensures { IfOk result (λ last. (fs : List Frame) → end_of focus fs ≡ option_and_then (λ tree. whole_tree (closed tree fs)) last) }
+    ensures { IfOk result (λ last. (fs : List Frame) →
+        end_of focus fs ≡ option_and_then (λ tree. whole_tree (close tree fs)) last) }
 {
     match focus {
         Focus::Ended(first) => Ok(Some(first)),
         Focus::Placed(place) => Ok(Some(place)),
-        Focus::Branch(path, taken) => Ok(Some(test(alloc, path, taken)?)),
+        Focus::Branch(path, taken) => Ok(Some(if_then(alloc, path, taken)?)),
         _ => Ok(None),
     }
 }
@@ -476,9 +484,10 @@ impl Parser {
         }
     }
 
-    /// The state behind one more word or sign, which is at an offset.
+    /// The state after one more word or sign, which is at an offset.
     pub fn advance(self, alloc: Global, at: usize, token: Token<'_>) -> Result<Parser, PipeFault>
-        ensures { Gives state_of result (advance at (state_of self) (piece_of token.entry)) }
+        ensures { let piece = piece_of token.entry in
+            GivesState result (advance at (state_of self) piece) }
     {
         let Parser {
             focus,
@@ -487,12 +496,12 @@ impl Parser {
         } = self;
         match focus {
             Focus::Place => place(alloc, frames, paths, at, token),
-            Focus::Ended(first) => behind_semicolon(alloc, first, frames, paths, at, token),
+            Focus::Ended(first) => after_semicolon(alloc, first, frames, paths, at, token),
             Focus::Test => test_path(alloc, frames, paths, at, token),
             Focus::Opening(path) => open_brace(Frame::Taken(path), frames, paths, at, token),
-            Focus::Placed(last) => behind_place(alloc, last, frames, paths, at, token),
+            Focus::Placed(last) => after_place(alloc, last, frames, paths, at, token),
             Focus::Branch(path, taken) => {
-                behind_branch(alloc, path, taken, frames, paths, at, token)
+                after_branch(alloc, path, taken, frames, paths, at, token)
             }
             Focus::Otherwise(path, taken) => {
                 open_brace(Frame::Other(path, taken), frames, paths, at, token)
@@ -502,7 +511,7 @@ impl Parser {
 
     /// The tree at the end of a text, and the paths in it.
     pub fn finish(self, alloc: Global, end: usize) -> Result<(Tree, Paths), PipeFault>
-        ensures { Gives (λ x. (x.0, x.1)) result (finished end self.paths (end_of self.focus self.frames)) }
+        ensures { Gives result (finish end self.paths (end_of self.focus self.frames)) }
     {
         let Parser {
             focus,

@@ -1,7 +1,7 @@
 ghost use Rattle.std.specs.Prelude.{◌≡◌, ◌++◌, codes, IfOk, OnOk};
-ghost use Rattle.vr_pipe.specs.Trees.{pipeline};
+ghost use Rattle.vr_pipe.specs.Trees.{pipe_tree};
 ghost use Rattle.vr_pipe.specs.Grammar.{Spells};
-ghost use Rattle.vr_pipe.specs.Pipes.{printed, else_text};
+ghost use Rattle.vr_pipe.specs.Pipes.{text_of, else_text};
 
 use crate::pipes::Pipe;
 use crate::trees::Tree;
@@ -35,7 +35,7 @@ fn print_else(other: &Option<Boxed<Tree>>, out: &mut Bytes) -> Result<(), NoMemo
 
 #[cycle(print)]
 fn print_tree(tree: &Tree, out: &mut Bytes) -> Result<(), NoMemory>
-    ensures { OnOk result (out.new ≡ out.old ++ printed (pipeline tree.now)) }
+    ensures { OnOk result (out.new ≡ out.old ++ text_of (pipe_tree tree.now)) }
 {
     match tree {
         Tree::Program(path) => out.push_slice(path.as_slice()),
@@ -57,11 +57,11 @@ fn print_tree(tree: &Tree, out: &mut Bytes) -> Result<(), NoMemory>
     }
 }
 
-/// A pipeline's text: its words and signs with one space between them, its paths normalised, without a `;` behind the
-/// last feed. Reading it gives the same pipeline.
+/// A pipeline's text: its words and signs with one space between them, its paths in normal form, and no `;` after
+/// the last feed. Reading it gives the same pipeline.
 pub fn print_pipe(alloc: Global, pipe: &Pipe) -> Result<Bytes, NoMemory>
-    ensures text { IfOk result (λ text. text ≡ printed (pipeline pipe.now)) }
-    ensures spells { IfOk result (λ text. Spells text (pipeline pipe.now)) }
+    ensures text { IfOk result (λ text. text ≡ text_of (pipe_tree pipe.now)) }
+    ensures spells { IfOk result (λ text. Spells text (pipe_tree pipe.now)) }
 {
     let mut out = Bytes::of(Vec::new(alloc));
     print_tree(pipe.tree(), &mut out)?;

@@ -1,7 +1,7 @@
 ghost use Rattle.std.specs.Prelude.{◌≡◌, ◌≢◌, ℕ, ◌+◌, ◌<◌, ◌≤◌, ◌^◌, true, false, [], ◌∷◌, length, MatchOption, IfSome, slice_index};
 ghost use Rattle.std.specs.List.{prefix_len};
 ghost use Rattle.vr_pipe.specs.Pieces.{Piece, is_blank, is_sign, is_word_byte, word_piece, sign_piece, pieces_from};
-ghost use Rattle.vr_pipe.specs.Tokens.{piece_of};
+ghost use Rattle.vr_pipe.specs.Tokens.{piece_of, BeginsWith};
 
 /// A word or a sign of a pipeline's text.
 #[derive(Clone, Copy, Debug)]
@@ -20,7 +20,7 @@ pub enum Token<'a> {
     Close,
 }
 
-/// A word or a sign, the offset of its first byte, that of the byte behind it, and the bytes from there on.
+/// A word or a sign, the offset of its first byte, that of the byte after it, and the bytes from there on.
 #[derive(Clone, Copy, Debug)]
 pub struct Placed<'a> {
     pub token: Token<'a>,
@@ -44,7 +44,8 @@ fn is_sign(byte: u8) -> bool
 fn blank_length(bytes: &[u8]) -> usize
     ensures length { result ≡ prefix_len is_blank bytes.now }
     ensures within { result ≤ length bytes.now }
-    ensures stops { result < length bytes.now → is_blank (slice_index bytes.now result) ≡ false }
+    ensures stops { result < length bytes.now →
+        is_blank (slice_index bytes.now result) ≡ false }
 {
     bytes.iter().take_while(|b| is_blank(**b)).count()
 }
@@ -87,7 +88,7 @@ fn first_token(bytes: &[u8], at: usize) -> Placed<'_>
     requires fits { at + length bytes.now < 2 ^ 64 }
     requires some { 0 < length bytes.now }
     requires no_blank { is_blank (slice_index bytes.now 0) ≡ false }
-    ensures pieces { pieces_from at false bytes.now ≡ (result.at, piece_of result.token) ∷ pieces_from result.end false result.rest.now }
+    ensures pieces { BeginsWith at bytes.now result }
     ensures rest { result.end + length result.rest.now ≡ at + length bytes.now }
     ensures shorter { length result.rest.now < length bytes.now }
 {
@@ -114,8 +115,10 @@ fn first_token(bytes: &[u8], at: usize) -> Placed<'_>
 /// The first word or sign of bytes that are at an offset.
 pub fn next_token(bytes: &[u8], at: usize) -> Option<Placed<'_>>
     requires { at + length bytes.now < 2 ^ 64 }
-    ensures pieces { MatchOption result (pieces_from at false bytes.now ≡ []) (λ found. pieces_from at false bytes.now ≡ (found.at, piece_of found.token) ∷ pieces_from found.end false found.rest.now) }
-    ensures rest { IfSome result (λ found. found.end + length found.rest.now ≡ at + length bytes.now) }
+    ensures pieces { MatchOption result (pieces_from at false bytes.now ≡ [])
+        (λ found. BeginsWith at bytes.now found) }
+    ensures rest { IfSome result (λ found.
+        found.end + length found.rest.now ≡ at + length bytes.now) }
     ensures shorter { IfSome result (λ found. length found.rest.now < length bytes.now) }
 {
     let blanks = blank_length(bytes);

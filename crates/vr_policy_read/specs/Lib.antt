@@ -1,4 +1,5 @@
 pub mod Faults
+pub mod Limits
 pub mod Members
 pub mod Policies
 pub mod PolicyData

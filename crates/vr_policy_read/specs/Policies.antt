@@ -5,53 +5,56 @@ use Rattle.std.specs.Str.{is_utf8}
 use Rattle.hex.specs.Hex.{encode_lower, decode_sized}
 use Rattle.serde_json.specs.Data.{Data, number, string, Members}
 use Rattle.serde_json.specs.Read.{read}
+use Rattle.vr_base.specs.Checks.{◌>>=◌, or_fault}
 use Rattle.vr_base.specs.Names.{path_of, grant_of}
-use Rattle.vr_base.specs.Rights.{masked, letters_word}
-use Rattle.vr_policy_read.specs.Faults.{◌>>=◌, or_fault, located, unlocated}
-use Rattle.vr_policy_read.specs.Members.{found, required, or_absent, at_most, an_object, required_text, a_number_at_most, list_of_at_most}
+use Rattle.vr_base.specs.Rights.{known_rights, letters_word}
+use Rattle.vr_policy_read.specs.Faults.{answer_at, kind_answer}
+use Rattle.vr_policy_read.specs.Limits.{most_policy, most_pages, pages_per_mib}
+use Rattle.vr_policy_read.specs.Members.{member_value, required_value, optional_value, object_in, required_text, whole_at_most, number_in, entries_in}
 use Rattle.vr_policy_read.specs.PolicyData.{PolicyData, policy_data}
 use Rattle.vr_policy_read.specs.declared.entries.Identity.{Identity}
 use Rattle.vr_policy_read.specs.declared.entries.Program.{Program}
 use Rattle.vr_policy_read.specs.declared.entries.Pipeline.{Pipeline}
 use Rattle.vr_policy_read.specs.declared.entries.Pin.{Pin}
+use Rattle.vr_policy_read.specs.declared.entries.Quota.{Quota}
+use Rattle.vr_policy_read.specs.declared.faults.Member.TheVariants.{Top, Identities, Id, FileRights, FileName, Rights, Programs, ProgramFileName, Pipelines, PipelineText, FileHashes, FilePath, Hash, MaxMemory, Quotas, Bytes}
 use Rattle.vr_policy_read.specs.declared.faults.Member.{Member}
-use Rattle.vr_policy_read.specs.declared.faults.Member.TheVariants.{Top, Identities, Id, FileRights, FileName, Rights, Programs, ProgramFileName, Pipelines, PipelineText, FileHashes, FilePath, Hash, MaxMemory}
 use Rattle.vr_policy_read.specs.declared.faults.ReadKind.{ReadKind}
 use Rattle.vr_policy_read.specs.declared.faults.ReadKind.TheVariants.{TooLong, NotJson, WrongKind, BadName, BadRights, BadHash}
 use Rattle.vr_policy_read.specs.declared.faults.ReadFault.{ReadFault}
 
--- a list of the policy, with at most 1,024 entries
-abbrev pub list_of : {A : Type 0} → Member → (Members → Result A ReadKind) → Data → Result (List A) ReadFault
-list_of list read d = list_of_at_most 1024 list read d
-
 -- ---- grants
 
--- the name that a text stands for by the rules of names
-abbrev pub a_name : {A F : Type 0} → Result A F → Result A ReadKind
-a_name name = or_fault BadName (result_ok name)
+-- the name of a grant in the text of a member
+abbrev pub grant_name_in : Member → Members → Result (List ℕ) ReadKind
+grant_name_in member members = do
+  text ← required_text member members
+  or_fault BadName (result_ok (grant_of text))
 
 -- a rights word as a number or as letters, without the bits that have no meaning
-abbrev pub rights_of : Data → Result ℕ ReadKind
-rights_of (number n) = or_fault BadRights (option_map masked (at_most (2 ^ 32 - 1) n))
-rights_of (string text) = or_fault BadRights (letters_word text)
-rights_of _ = Err (WrongKind Rights)
+abbrev pub rights_in : Data → Result ℕ ReadKind
+rights_in (number n) = or_fault BadRights (option_map known_rights (whole_at_most (2 ^ 32 - 1) n))
+rights_in (string text) = or_fault BadRights (letters_word text)
+rights_in _ = Err (WrongKind Rights)
 
 -- one grant: file_name, then rights
 abbrev pub grant_in : Members → Result (List ℕ × ℕ) ReadKind
 grant_in members = do
-  name ← required_text FileName members >>= λ text. a_name (grant_of text)
-  word ← required Rights members >>= rights_of
+  name ← grant_name_in FileName members
+  word ← required_value Rights members >>= rights_in
   Ok (name, word)
 
--- the grants at file_rights, which has to be there
+-- the grants of file_rights, which has to be there
 abbrev pub grants_in : Members → Result (List (List ℕ × ℕ)) ReadKind
-grants_in members = required FileRights members >>= λ d. unlocated (list_of FileRights grant_in d)
+grants_in members = do
+  value ← required_value FileRights members
+  kind_answer (entries_in FileRights grant_in value)
 
--- ---- the entries of the four lists
+-- ---- the entries of the lists
 
 -- an id, from 0 to 2^32 - 1
 abbrev pub id_in : Members → Result ℕ ReadKind
-id_in members = required Id members >>= a_number_at_most (2 ^ 32 - 1) Id
+id_in members = required_value Id members >>= number_in (2 ^ 32 - 1) Id
 
 -- an identity: id, then file_rights
 abbrev pub identity_in : Members → Result Identity ReadKind
@@ -63,7 +66,7 @@ identity_in members = do
 -- a program: program_file_name, then file_rights
 abbrev pub program_in : Members → Result Program ReadKind
 program_in members = do
-  name ← required_text ProgramFileName members >>= λ text. a_name (grant_of text)
+  name ← grant_name_in ProgramFileName members
   grants ← grants_in members
   Ok (record { name = name; grants = grants })
 
@@ -74,6 +77,12 @@ pipeline_in members = do
   text ← required_text PipelineText members
   Ok (record { id = id; text = text })
 
+-- the path in the text of file_path
+abbrev pub path_in : Members → Result (List ℕ) ReadKind
+path_in members = do
+  text ← required_text FilePath members
+  or_fault BadName (result_ok (path_of text))
+
 -- the lower-case digits of the 32 bytes that a text of 64 hex digits spells
 abbrev pub hash_of : List ℕ → Result (List ℕ) ReadKind
 hash_of text = or_fault BadHash (option_map encode_lower (result_ok (decode_sized text 32)))
@@ -81,34 +90,42 @@ hash_of text = or_fault BadHash (option_map encode_lower (result_ok (decode_size
 -- a pinned hash: file_path, then hash
 abbrev pub pin_in : Members → Result Pin ReadKind
 pin_in members = do
-  path ← required_text FilePath members >>= λ text. a_name (path_of text)
+  path ← path_in members
   hash ← required_text Hash members >>= hash_of
   Ok (record { path = path; hash = hash })
 
+-- a quota: file_name, then bytes, from 0 to 2^64 - 1
+abbrev pub quota_in : Members → Result Quota ReadKind
+quota_in members = do
+  name ← grant_name_in FileName members
+  bytes ← required_value Bytes members >>= number_in (2 ^ 64 - 1) Bytes
+  Ok (record { name = name; bytes = bytes })
+
 -- ---- the file
 
--- the pages of a run's memory, of 64 KiB each, for so many MiB
+-- the pages of a run's memory, for so many MiB
 abbrev pub pages_of : ℕ → ℕ
-pages_of mib = min 1024 (16 * mib)
+pages_of mib = min most_pages (pages_per_mib * mib)
 
--- max_memory_mib in pages, 1,024 where it is absent
+-- max_memory_mib in pages; all that a run may have where it is absent
 abbrev pub pages_in : Members → Result ℕ ReadKind
-pages_in top = or_absent 1024 (λ d. a_number_at_most (2 ^ 64 - 1) MaxMemory d >>= λ mib. Ok (pages_of mib)) (found MaxMemory top)
+pages_in top = optional_value most_pages (λ d. number_in (2 ^ 64 - 1) MaxMemory d >>= λ mib. Ok (pages_of mib)) (member_value MaxMemory top)
 
--- the policy that a tree says: identities, then programs, pipelines, file_hashes and max_memory_mib
-abbrev pub policy_in : Data → Result PolicyData ReadFault
-policy_in tree = do
-  top ← located 0 (an_object Top tree)
-  identities ← located 0 (required Identities top) >>= list_of Identities identity_in
-  programs ← or_absent [] (list_of Programs program_in) (found Programs top)
-  pipelines ← or_absent [] (list_of Pipelines pipeline_in) (found Pipelines top)
-  pins ← or_absent [] (list_of FileHashes pin_in) (found FileHashes top)
-  pages ← located 0 (pages_in top)
-  Ok (policy_data identities programs pipelines pins pages)
+-- the entries of a list that may be absent, which means that it is empty
+abbrev pub optional_entries : {A : Type 0} → Member → (Members → Result A ReadKind) → Members → Result (List A) ReadFault
+optional_entries list read top = optional_value [] (entries_in list read) (member_value list top)
 
--- the most bytes of a policy file
-abbrev pub most_policy : ℕ
-most_policy = 4194304
+-- the policy that a tree says, its members tested in this order
+abbrev pub policy_of_tree : Data → Result PolicyData ReadFault
+policy_of_tree tree = do
+  top ← answer_at 0 (object_in Top tree)
+  identities ← answer_at 0 (required_value Identities top) >>= entries_in Identities identity_in
+  programs ← optional_entries Programs program_in top
+  pipelines ← optional_entries Pipelines pipeline_in top
+  pins ← optional_entries FileHashes pin_in top
+  pages ← answer_at 0 (pages_in top)
+  quotas ← optional_entries Quotas quota_in top
+  Ok (policy_data identities programs pipelines pins pages quotas)
 
 -- the tree that a file of at most so many bytes spells in JSON, as UTF-8
 abbrev pub tree_within : ℕ → List ℕ → Result Data ReadKind
@@ -116,7 +133,7 @@ tree_within most bytes = if nat_lt most (length bytes) then Err TooLong else or_
 
 -- the policy that a file of at most so many bytes says, or its first fault
 abbrev pub policy_within : ℕ → List ℕ → Result PolicyData ReadFault
-policy_within most bytes = located 0 (tree_within most bytes) >>= policy_in
+policy_within most bytes = answer_at 0 (tree_within most bytes) >>= policy_of_tree
 
 -- the policy that a file says, or its first fault
 abbrev pub policy_of : List ℕ → Result PolicyData ReadFault

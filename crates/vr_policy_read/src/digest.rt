@@ -16,7 +16,7 @@ pub fn policy_hash(bytes: &[u8]) -> [u8; 64]
 
 /// The 64 lower-case digits of a hash that a text spells in digits of either case.
 pub fn parse_hash(text: &str) -> Result<[u8; 64], ReadKind>
-    ensures { GivesKind (λ digits. digits) result (hash_of text.now) }
+    ensures { GivesKind result (hash_of text.now) }
 {
     let mut bytes = [0; 32];
     match hex::decode_to_slice(text, &mut bytes) {

@@ -27,3 +27,10 @@ pub struct Pin {
     pub path: Path,
     pub hash: [u8; 64],
 }
+
+/// How many bytes the files of a region may have together. Several quotas may name one region.
+#[derive(Debug, Drop)]
+pub struct Quota {
+    pub name: GrantName,
+    pub bytes: u64,
+}

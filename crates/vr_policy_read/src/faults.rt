@@ -1,6 +1,6 @@
 ghost use Rattle.std.specs.Prelude.{◌≡◌};
 ghost use Rattle.vr_policy_read.specs.Faults.{kind_number};
-ghost use Rattle.vr_policy_read.specs.Members.{name_of};
+ghost use Rattle.vr_policy_read.specs.Members.{member_name};
 
 use std::alloc::{AllocError, AllocFailed};
 use vr_base::{NoMemory, PathFault};
@@ -25,12 +25,15 @@ pub enum Member {
     FilePath,
     Hash,
     MaxMemory,
+    Quotas,
+    /// The bytes of a quota.
+    Bytes,
 }
 
 impl Member {
     /// The member's name in the file, and no text for the whole file.
     pub(crate) fn name(self) -> &'static str
-        ensures { result.now ≡ name_of self }
+        ensures { result.now ≡ member_name self }
     {
         match self {
             Member::Top => "",
@@ -47,6 +50,8 @@ impl Member {
             Member::FilePath => "file_path",
             Member::Hash => "hash",
             Member::MaxMemory => "max_memory_mib",
+            Member::Quotas => "quotas",
+            Member::Bytes => "bytes",
         }
     }
 }
@@ -75,7 +80,7 @@ pub enum ReadKind {
 }
 
 impl ReadKind {
-    /// The number of the kind in reports, from 1 to 8, and 0 for want of memory.
+    /// The number of the kind in reports, from 1 to 8, and 0 where memory ran out.
     pub fn number(self) -> u32
         ensures { result ≡ kind_number self }
     {
@@ -97,7 +102,7 @@ impl ReadKind {
 #[derive(Clone, Copy, Debug, PartialEq, Eq)]
 pub struct ReadFault {
     pub kind: ReadKind,
-    /// The index in the outermost list, counted from 0, and 0 where the fault stands in no entry of a list.
+    /// The index in the outermost list, counted from 0, and 0 where the fault is in no entry of a list.
     pub at: u32,
 }
 
@@ -139,9 +144,9 @@ impl From<PathFault> for ReadKind {
 
 impl From<ReadKind> for ReadFault {
     ghost use Rattle.std.specs.Prelude.{◌≡◌};
-    ghost use Rattle.vr_policy_read.specs.Faults.{fault};
+    ghost use Rattle.vr_policy_read.specs.Faults.{fault_at};
 
-    ghost from_gives = { λ kind e. e ≡ fault kind 0 };
+    ghost from_gives = { λ kind e. e ≡ fault_at kind 0 };
 
     fn from(kind: ReadKind) -> ReadFault {
         ReadFault { kind, at: 0 }
@@ -150,10 +155,10 @@ impl From<ReadKind> for ReadFault {
 
 impl From<AllocError> for ReadFault {
     ghost use Rattle.std.specs.Prelude.{◌≡◌};
-    ghost use Rattle.vr_policy_read.specs.Faults.{fault};
+    ghost use Rattle.vr_policy_read.specs.Faults.{fault_at};
     ghost use Rattle.vr_policy_read.specs.declared.faults.ReadKind.TheVariants.{OutOfMemory};
 
-    ghost from_gives = { λ _ e. e ≡ fault OutOfMemory 0 };
+    ghost from_gives = { λ _ e. e ≡ fault_at OutOfMemory 0 };
 
     fn from(_refused: AllocError) -> ReadFault {
         ReadFault::from(ReadKind::OutOfMemory)
@@ -162,10 +167,10 @@ impl From<AllocError> for ReadFault {
 
 impl<T: Drop> From<AllocFailed<T>> for ReadFault {
     ghost use Rattle.std.specs.Prelude.{◌≡◌};
-    ghost use Rattle.vr_policy_read.specs.Faults.{fault};
+    ghost use Rattle.vr_policy_read.specs.Faults.{fault_at};
     ghost use Rattle.vr_policy_read.specs.declared.faults.ReadKind.TheVariants.{OutOfMemory};
 
-    ghost from_gives = { λ _ e. e ≡ fault OutOfMemory 0 };
+    ghost from_gives = { λ _ e. e ≡ fault_at OutOfMemory 0 };
 
     fn from(_refused: AllocFailed<T>) -> ReadFault {
         ReadFault::from(ReadKind::OutOfMemory)

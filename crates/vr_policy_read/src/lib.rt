@@ -7,11 +7,9 @@ mod faults;
 mod json;
 mod policy;
 mod reading;
-#[cfg(test)]
-mod tests;
 
 pub use digest::policy_hash;
-pub use entries::{Identity, Pin, Pipeline, Program};
+pub use entries::{Identity, Pin, Pipeline, Program, Quota};
 pub use faults::{Member, ReadFault, ReadKind};
 pub use json::MOST_POLICY;
 pub use policy::Policy;

@@ -1,12 +1,12 @@
 ghost use Rattle.std.specs.Prelude.{◌≡◌};
 ghost use Rattle.vr_policy_read.specs.PolicyData.{IsWithinLimits};
 
-use crate::entries::{Identity, Pin, Pipeline, Program};
+use crate::entries::{Identity, Pin, Pipeline, Program, Quota};
 use std::marker::Model;
 use vr_base::List;
 
 /// A policy as its file says it, within the limits on a policy's size. Whether its parts fit together is another
-/// question: names and ids may stand twice, and the texts of pipelines are not read.
+/// question: names and ids may come twice, and the texts of pipelines are not read.
 #[derive(Debug, Drop)]
 pub struct Policy {
     pub identities: List<Identity>,
@@ -15,6 +15,7 @@ pub struct Policy {
     pub pins: List<Pin>,
     /// The most pages of memory of a run, of 64 KiB each.
     pub pages: u32,
+    pub quotas: List<Quota>,
 }
 
 impl Model for Policy {
@@ -22,9 +23,10 @@ impl Model for Policy {
 
     ghost Value = { PolicyData };
 
-    ghost view = { λ p. policy_data p.identities p.programs p.pipelines p.pins p.pages };
+    ghost view = { λ p. policy_data p.identities p.programs p.pipelines p.pins p.pages p.quotas };
 
-    ghost invariant = { λ p. IsWithinLimits (policy_data p.identities p.programs p.pipelines p.pins p.pages) };
+    ghost invariant = { λ p.
+        IsWithinLimits (policy_data p.identities p.programs p.pipelines p.pins p.pages p.quotas) };
 }
 
 impl Policy {

@@ -1,17 +1,17 @@
-ghost use Rattle.std.specs.Prelude.{◌≡◌, ◌≤◌, [], vec_len};
+ghost use Rattle.std.specs.Prelude.{◌≡◌, ◌≤◌, vec_len};
 ghost use Rattle.serde_json.specs.View.{view, items_view, members_view};
-ghost use Rattle.vr_policy_read.specs.Faults.{Gives, GivesKind, located};
-ghost use Rattle.vr_policy_read.specs.Members.{entry_of, entries_from, found, or_absent};
-ghost use Rattle.vr_policy_read.specs.Policies.{list_of, rights_of, grants_in, id_in, pages_in, policy_in, policy_of};
+ghost use Rattle.vr_policy_read.specs.Faults.{Gives, GivesKind, answer_at};
+ghost use Rattle.vr_policy_read.specs.Members.{entry_in, entries_from, entries_in};
+ghost use Rattle.vr_policy_read.specs.Policies.{optional_entries, grant_name_in, rights_in, grants_in, id_in, path_in, pages_in, policy_of_tree, policy_of};
 
 use crate::digest::parse_hash;
-use crate::entries::{Identity, Pin, Pipeline, Program};
+use crate::entries::{Identity, Pin, Pipeline, Program, Quota};
 use crate::faults::{Member, ReadFault, ReadKind};
 use crate::json::{self, Object};
 use crate::policy::Policy;
 use serde_json::Value;
 use std::alloc::Global;
-use vr_base::{Bytes, GrantName, Grants, List, RightsWord, parse_grant_name, parse_path};
+use vr_base::{Bytes, GrantName, Grants, List, Path, RightsWord, parse_grant_name, parse_path};
 
 /// The most entries of a list.
 const MOST_ENTRIES: usize = 1024;
@@ -30,22 +30,22 @@ trait FromObject: Drop {
     ghost use Rattle.vr_policy_read.specs.declared.faults.ReadKind.{ReadKind};
 
     /// What the members of the object say.
-    ghost reading: { Members → Result Self ReadKind };
+    ghost value_in: { Members → Result Self ReadKind };
 
     ghost LIST: { Member };
 
-    /// The member at which the list stands.
+    /// The member whose list this is an entry of.
     const LIST: Member;
 
     fn from_object(alloc: Global, object: &Object) -> Result<Self, ReadKind>
-        ensures { GivesKind (λ x. x) result (reading (members_view object.now.entries)) };
+        ensures { GivesKind result (value_in (members_view object.now.entries)) };
 }
 
 impl FromObject for Identity {
     ghost use Rattle.vr_policy_read.specs.declared.faults.Member.TheVariants.{Identities};
     ghost use Rattle.vr_policy_read.specs.Policies.{identity_in};
 
-    ghost reading = { identity_in };
+    ghost value_in = { identity_in };
 
     ghost LIST = { Identities };
 
@@ -63,16 +63,15 @@ impl FromObject for Program {
     ghost use Rattle.vr_policy_read.specs.declared.faults.Member.TheVariants.{Programs};
     ghost use Rattle.vr_policy_read.specs.Policies.{program_in};
 
-    ghost reading = { program_in };
+    ghost value_in = { program_in };
 
     ghost LIST = { Programs };
 
     const LIST: Member = Member::Programs;
 
     fn from_object(alloc: Global, object: &Object) -> Result<Program, ReadKind> {
-        let text = json::required_text(object, Member::ProgramFileName)?;
         Ok(Program {
-            name: parse_grant_name(alloc, text.as_bytes())?,
+            name: grant_name(alloc, object, Member::ProgramFileName)?,
             grants: grants(alloc, object)?,
         })
     }
@@ -82,7 +81,7 @@ impl FromObject for Pipeline {
     ghost use Rattle.vr_policy_read.specs.declared.faults.Member.TheVariants.{Pipelines};
     ghost use Rattle.vr_policy_read.specs.Policies.{pipeline_in};
 
-    ghost reading = { pipeline_in };
+    ghost value_in = { pipeline_in };
 
     ghost LIST = { Pipelines };
 
@@ -102,17 +101,36 @@ impl FromObject for Pin {
     ghost use Rattle.vr_policy_read.specs.declared.faults.Member.TheVariants.{FileHashes};
     ghost use Rattle.vr_policy_read.specs.Policies.{pin_in};
 
-    ghost reading = { pin_in };
+    ghost value_in = { pin_in };
 
     ghost LIST = { FileHashes };
 
     const LIST: Member = Member::FileHashes;
 
     fn from_object(alloc: Global, object: &Object) -> Result<Pin, ReadKind> {
-        let text = json::required_text(object, Member::FilePath)?;
-        let path = parse_path(alloc, text.as_bytes())?;
+        let path = path(alloc, object)?;
         let hash = parse_hash(json::required_text(object, Member::Hash)?)?;
         Ok(Pin { path, hash })
+    }
+}
+
+impl FromObject for Quota {
+    ghost use Rattle.vr_policy_read.specs.declared.faults.Member.TheVariants.{Quotas};
+    ghost use Rattle.vr_policy_read.specs.Policies.{quota_in};
+
+    ghost value_in = { quota_in };
+
+    ghost LIST = { Quotas };
+
+    const LIST: Member = Member::Quotas;
+
+    fn from_object(alloc: Global, object: &Object) -> Result<Quota, ReadKind> {
+        let name = grant_name(alloc, object, Member::FileName)?;
+        let value = json::required(object, Member::Bytes)?;
+        let bytes = json::number_at_most(value, u64::MAX).ok_or(ReadKind::WrongKind(
+            Member::Bytes,
+        ))?;
+        Ok(Quota { name, bytes })
     }
 }
 
@@ -121,15 +139,14 @@ impl FromObject for (GrantName, RightsWord) {
     ghost use Rattle.vr_policy_read.specs.declared.faults.Member.TheVariants.{FileRights};
     ghost use Rattle.vr_policy_read.specs.Policies.{grant_in};
 
-    ghost reading = { grant_in };
+    ghost value_in = { grant_in };
 
     ghost LIST = { FileRights };
 
     const LIST: Member = Member::FileRights;
 
     fn from_object(alloc: Global, object: &Object) -> Result<(GrantName, RightsWord), ReadKind> {
-        let text = json::required_text(object, Member::FileName)?;
-        let name = parse_grant_name(alloc, text.as_bytes())?;
+        let name = grant_name(alloc, object, Member::FileName)?;
         let word = rights(json::required(object, Member::Rights)?)?;
         Ok((name, word))
     }
@@ -137,7 +154,7 @@ impl FromObject for (GrantName, RightsWord) {
 
 /// An entry of a list, which has to be an object.
 fn entry<T: FromObject>(alloc: Global, value: &Value) -> Result<T, ReadKind>
-    ensures { GivesKind (λ x. x) result (entry_of T.LIST T.reading (view value.now)) }
+    ensures { GivesKind result (entry_in T.LIST T.value_in (view value.now)) }
 {
     let object = json::object(value, T::LIST)?;
     T::from_object(alloc, object)
@@ -145,25 +162,25 @@ fn entry<T: FromObject>(alloc: Global, value: &Value) -> Result<T, ReadKind>
 
 /// An entry of a list, where a fault has the entry's index.
 fn entry_at<T: FromObject>(alloc: Global, value: &Value, at: u32) -> Result<T, ReadFault>
-    ensures { Gives (λ x. x) result (located at (entry_of T.LIST T.reading (view value.now))) }
+    ensures { Gives result (answer_at at (entry_in T.LIST T.value_in (view value.now))) }
 {
     entry(alloc, value).map_err(|kind| ReadFault { kind, at })
 }
 
-fn entries<T: FromObject>(alloc: Global, list: &Vec<Value>) -> Result<Vec<T>, ReadFault>
+fn entries<T: FromObject>(alloc: Global, list: &Vec<Value>) -> Result<List<T>, ReadFault>
     requires { vec_len list.now ≤ MOST_ENTRIES }
-    ensures { Gives (λ v. v.items) result (entries_from 0 T.LIST T.reading (items_view list.now.items)) }
+    ensures { Gives result (entries_from 0 T.LIST T.value_in (items_view list.now.items)) }
 {
     let mut all = Vec::with_capacity(alloc, list.len())?;
     for (k, value) in list.iter().enumerate() {
         all.push(entry_at(alloc, value, k as u32)?)?;
     }
-    Ok(all)
+    Ok(List::of(all))
 }
 
-/// A list of at most 1,024 objects.
-fn list<T: FromObject>(alloc: Global, value: &Value) -> Result<Vec<T>, ReadFault>
-    ensures { Gives (λ v. v.items) result (list_of T.LIST T.reading (view value.now)) }
+/// A list of objects.
+fn list<T: FromObject>(alloc: Global, value: &Value) -> Result<List<T>, ReadFault>
+    ensures { Gives result (entries_in T.LIST T.value_in (view value.now)) }
 {
     let list = json::list(value, T::LIST)?;
     if list.len() > MOST_ENTRIES {
@@ -174,29 +191,45 @@ fn list<T: FromObject>(alloc: Global, value: &Value) -> Result<Vec<T>, ReadFault
 }
 
 /// A list that may be absent, which means the empty one.
-fn optional_list<T: FromObject>(alloc: Global, object: &Object) -> Result<Vec<T>, ReadFault>
-    ensures { Gives (λ v. v.items) result (or_absent [] (list_of T.LIST T.reading) (found T.LIST (members_view object.now.entries))) }
+fn optional_list<T: FromObject>(alloc: Global, object: &Object) -> Result<List<T>, ReadFault>
+    ensures { Gives result (optional_entries T.LIST T.value_in (members_view object.now.entries)) }
 {
     match json::find(object, T::LIST) {
         Some(value) => list(alloc, value),
-        None => Ok(Vec::new(alloc)),
+        None => Ok(List::of(Vec::new(alloc))),
     }
+}
+
+/// The name of a grant at a member.
+fn grant_name(alloc: Global, object: &Object, member: Member) -> Result<GrantName, ReadKind>
+    ensures { GivesKind result (grant_name_in member (members_view object.now.entries)) }
+{
+    let text = json::required_text(object, member)?;
+    Ok(parse_grant_name(alloc, text.as_bytes())?)
+}
+
+/// The path of a pinned file.
+fn path(alloc: Global, object: &Object) -> Result<Path, ReadKind>
+    ensures { GivesKind result (path_in (members_view object.now.entries)) }
+{
+    let text = json::required_text(object, Member::FilePath)?;
+    Ok(parse_path(alloc, text.as_bytes())?)
 }
 
 /// The grants of an identity or of a program.
 fn grants(alloc: Global, object: &Object) -> Result<Grants, ReadKind>
-    ensures { GivesKind (λ grants. grants) result (grants_in (members_view object.now.entries)) }
+    ensures { GivesKind result (grants_in (members_view object.now.entries)) }
 {
     let value = json::required(object, Member::FileRights)?;
     match list(alloc, value) {
-        Ok(grants) => Ok(Grants::of(grants)),
+        Ok(grants) => Ok(Grants::of(grants.into_vec())),
         Err(fault) => Err(fault.kind),
     }
 }
 
 /// A rights word, as a number or as letters.
 fn rights(value: &Value) -> Result<RightsWord, ReadKind>
-    ensures { GivesKind (λ word. word) result (rights_of (view value.now)) }
+    ensures { GivesKind result (rights_in (view value.now)) }
 {
     if let Some(letters) = value.as_str() {
         RightsWord::of_letters(letters.as_bytes()).ok_or(ReadKind::BadRights)
@@ -212,7 +245,7 @@ fn rights(value: &Value) -> Result<RightsWord, ReadKind>
 
 /// The id of an identity or of a pipeline.
 fn id(object: &Object) -> Result<u32, ReadKind>
-    ensures { GivesKind (λ id. id) result (id_in (members_view object.now.entries)) }
+    ensures { GivesKind result (id_in (members_view object.now.entries)) }
 {
     let value = json::required(object, Member::Id)?;
     match json::number_at_most(value, u32::MAX as u64) {
@@ -223,7 +256,7 @@ fn id(object: &Object) -> Result<u32, ReadKind>
 
 /// The most pages of memory of a run.
 fn pages(top: &Object) -> Result<u32, ReadKind>
-    ensures { GivesKind (λ pages. pages) result (pages_in (members_view top.now.entries)) }
+    ensures { GivesKind result (pages_in (members_view top.now.entries)) }
 {
     let Some(value) = json::find(top, Member::MaxMemory) else {
         return Ok(MOST_PAGES as u32);
@@ -235,7 +268,7 @@ fn pages(top: &Object) -> Result<u32, ReadKind>
 }
 
 fn policy(alloc: Global, tree: &Value) -> Result<Policy, ReadFault>
-    ensures { Gives (λ policy. policy) result (policy_in (view tree.now)) }
+    ensures { Gives result (policy_of_tree (view tree.now)) }
 {
     let top = json::object(tree, Member::Top)?;
     let identities = list(alloc, json::required(top, Member::Identities)?)?;
@@ -243,20 +276,22 @@ fn policy(alloc: Global, tree: &Value) -> Result<Policy, ReadFault>
     let pipelines = optional_list(alloc, top)?;
     let pins = optional_list(alloc, top)?;
     let pages = pages(top)?;
+    let quotas = optional_list(alloc, top)?;
     Ok(Policy {
-        identities: List::of(identities),
-        programs: List::of(programs),
-        pipelines: List::of(pipelines),
-        pins: List::of(pins),
+        identities,
+        programs,
+        pipelines,
+        pins,
         pages,
+        quotas,
     })
 }
 
 /// The policy that a file's bytes say, or the first fault in them. The tests go through the file's length, its JSON and
-/// its top, and then through `identities`, `programs`, `pipelines`, `file_hashes` and `max_memory_mib`; in a list first
-/// its presence, kind and length, and then its entries in order.
+/// its top, and then through `identities`, `programs`, `pipelines`, `file_hashes`, `max_memory_mib` and `quotas`; in a
+/// list first its presence, kind and length, and then its entries in order.
 pub fn read_policy(alloc: Global, bytes: &[u8]) -> Result<Policy, ReadFault>
-    ensures { Gives (λ policy. policy) result (policy_of bytes.now) }
+    ensures { Gives result (policy_of bytes.now) }
 {
     let tree = json::tree(alloc, bytes)?;
     policy(alloc, &tree)

@@ -1,5 +1,5 @@
 -- A word of digits is text, and parsing it gives the number that the digits stand for.
-use Rattle.std.proofs.Common.{◌≡◌, ℕ, ◌<◌, ◌≤◌, ◌^◌, Bool, true, false, not, eqb, lt-ltb, le-ltb, ◌&&◌, List, [], ◌∷◌, length, Some, Result, Ok, Err, refl, ap, sym, rules, arith}
+use Rattle.std.proofs.Common.{◌≡◌, ℕ, ◌<◌, ◌≤◌, ◌^◌, Bool, true, false, not, eqb, lt-ltb, le-ltb, ◌&&◌, List, [], ◌∷◌, length, Result, Ok, Err, refl, ap, sym, rules, arith}
 use Rattle.std.specs.Char.{is_ascii_digit}
 use Rattle.std.specs.List.{list_all}
 use Rattle.std.specs.Str.{IsAscii, IsUtf8}
@@ -9,9 +9,8 @@ use Rattle.std.proofs.lemmas.Str.{IsUtf8-from_ascii}
 use Rattle.std.proofs.lemmas.Str.Ascii.{IsAscii-nil, IsAscii-cons}
 use Rattle.std.proofs.lemmas.Str.Parse.{IsNumeralModel, numerals_by_value, parse_digits}
 use Rattle.std.specs.Result.{OkIff, result_or}
-use Rattle.vr_report.specs.Answers.{Reads}
+use Rattle.vr_report.specs.Lines.{Gives, is_numeral, id_of}
 use Rattle.vr_report.specs.declared.reading.LineFault.TheVariants.{Form}
-use Rattle.vr_report.specs.Script.{is_numeral, id_of}
 
 pub digits_model : IsNumeralModel (λ ds. list_all is_ascii_digit ds ≡ true) (digits_value 10)
 digits_model = numerals_by_value _ (search rules)
@@ -36,19 +35,19 @@ too_large : (n : ℕ) → (n < 2 ^ 32 → ⊥) → 2 ^ 32 ≤ n
 too_large n h = omega (arith, h)
 
 module _ (word : List ℕ) (numeral : is_numeral word ≡ true) where
-  front : (not (eqb (length word) 0) && list_all is_ascii_digit word) ≡ true
-  front = (both_true _ _ numeral).0
+  starts : (not (eqb (length word) 0) && list_all is_ascii_digit word) ≡ true
+  starts = (both_true _ _ numeral).0
 
   pub digits_of_numeral : list_all is_ascii_digit word ≡ true
-  digits_of_numeral = (both_true _ _ front).1
+  digits_of_numeral = (both_true _ _ starts).1
 
   some_digit : 0 < length word
-  some_digit = let some = (both_true (not (eqb (length word) 0)) _ front).0 in grind (arith, nat_tests, some)
+  some_digit = let some = (both_true (not (eqb (length word) 0)) _ starts).0 in grind (arith, nat_tests, some)
 
   -- parsing a numeral gives the identity that it names, or it names none
-  pub id_parsed : {E : Type 0} (r : Result ℕ E) → ParsesUnsigned 32 10 word r → Reads (λ id. id) (result_or r (Err Form)) (id_of word)
+  pub id_parsed : {E : Type 0} (r : Result ℕ E) → ParsesUnsigned 32 10 word r → Gives (result_or r (Err Form)) (id_of word)
   id_parsed r h = by_answer r (parse_digits digits_model 32 word r h digits_of_numeral)
     where
-      by_answer : {E : Type 0} (r : Result ℕ E) → OkIff r ((0 < length word) × (digits_value 10 word < 2 ^ 32)) (digits_value 10 word) → Reads (λ id. id) (result_or r (Err Form)) (id_of word)
-      by_answer (Ok n) k = rw (numeral, lt-ltb _ _ k.0.1) (ap Some (sym k.1))
+      by_answer : {E : Type 0} (r : Result ℕ E) → OkIff r ((0 < length word) × (digits_value 10 word < 2 ^ 32)) (digits_value 10 word) → Gives (result_or r (Err Form)) (id_of word)
+      by_answer (Ok n) k = rw (numeral, lt-ltb _ _ k.0.1) (ap Ok (sym k.1))
       by_answer (Err e) k = rw (numeral, le-ltb _ _ (too_large (digits_value 10 word) (λ small. k (some_digit, small)))) refl

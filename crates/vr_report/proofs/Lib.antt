@@ -1,3 +1,4 @@
 pub mod Calls
+pub mod Contents
 pub mod Digits
 pub mod Parts

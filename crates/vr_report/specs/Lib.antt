@@ -1,3 +1,3 @@
+pub mod Lines
 pub mod Script
-pub mod Answers
 pub mod Texts

@@ -4,6 +4,7 @@ use Rattle.std.specs.FinMap.{entries}
 use Rattle.hex.specs.Hex.{encode_lower}
 use Rattle.sha2.specs.Sha256.{sha256}
 use Rattle.vr_base.specs.Rights.{right_name}
+use Rattle.vr_base.specs.Signs.{space, line_feed}
 use Rattle.vr_base.specs.declared.names.PathFault.{PathFault}
 use Rattle.vr_base.specs.declared.names.PathFault.TheVariants as faults
 use Rattle.vr_base.specs.declared.calls.Reply.{Reply}
@@ -11,16 +12,17 @@ use Rattle.vr_base.specs.declared.calls.Reply.TheVariants.{Stored, Read, Ended, 
 use Rattle.vr_base.specs.declared.calls.Why.{Why}
 use Rattle.vr_base.specs.declared.calls.Why.TheVariants.{Decode, Invalid, Link}
 use Rattle.vr_core.specs.State.{FileMap}
-use Rattle.vr_core.specs.Machine.{Origin, step}
+use Rattle.vr_core.specs.Machine.{Origin, Replay, replay}
+use Rattle.vr_report.specs.Script.{calls_of}
 use Rattle.vr_report.specs.declared.script.Line.{Line}
 
--- a space and then the text
-abbrev pub spaced : List ℕ → List ℕ
-spaced text = 32 ∷ text
+-- a word, with the space that parts it from those before it
+abbrev pub word : List ℕ → List ℕ
+word text = space ∷ text
 
--- a space and the decimal digits of a number
+-- a number as a word, in decimal digits
 abbrev pub number : ℕ → List ℕ
-number n = spaced (decimal n)
+number n = word (decimal n)
 
 -- bytes in hex, of none a dash
 abbrev pub hex_of : List ℕ → List ℕ
@@ -28,7 +30,7 @@ hex_of bytes = if length bytes == 0 then codes "-" else encode_lower bytes
 
 -- a size and the bytes
 abbrev pub sized_bytes : List ℕ → List ℕ
-sized_bytes bytes = number (length bytes) ++ spaced (hex_of bytes)
+sized_bytes bytes = number (length bytes) ++ word (hex_of bytes)
 
 -- why a program is none
 abbrev pub why_text : Why → List ℕ
@@ -49,29 +51,29 @@ abbrev pub reply_text : Reply → List ℕ
 reply_text Stored = codes "done"
 reply_text (Read body) = codes "done bytes" ++ sized_bytes body
 reply_text (Ended code out) = codes "done code" ++ number code ++ codes " out" ++ sized_bytes out
-reply_text (PolicyHash digits) = codes "done hash" ++ spaced digits
-reply_text (NoSuchFile path) = codes "no such file" ++ spaced path
-reply_text (Denied path right) = codes "denied" ++ spaced path ++ spaced (unwrap_or (right_name right) [])
+reply_text (PolicyHash digits) = codes "done hash" ++ word digits
+reply_text (NoSuchFile path) = codes "no such file" ++ word path
+reply_text (Denied path right) = codes "denied" ++ word path ++ word (unwrap_or (right_name right) [])
 reply_text (NoSuchPipeline id) = codes "no such pipeline" ++ number id
-reply_text (PinMissing path) = codes "pin missing" ++ spaced path
-reply_text (PinMismatch path found) = codes "pin mismatch" ++ spaced path ++ spaced found
+reply_text (PinMissing path) = codes "pin missing" ++ word path
+reply_text (PinMismatch path found) = codes "pin mismatch" ++ word path ++ word found
 reply_text (TooLarge size) = codes "too large" ++ number size
-reply_text (BadProgram path why) = codes "bad program" ++ spaced path ++ why_text why
-reply_text (Trapped path kind) = codes "trapped" ++ spaced path ++ number kind
-reply_text (OutOfFuel path) = codes "out of fuel" ++ spaced path
-reply_text (BadPath fault) = codes "bad path" ++ spaced (fault_text fault)
+reply_text (BadProgram path why) = codes "bad program" ++ word path ++ why_text why
+reply_text (Trapped path kind) = codes "trapped" ++ word path ++ number kind
+reply_text (OutOfFuel path) = codes "out of fuel" ++ word path
+reply_text (BadPath fault) = codes "bad path" ++ word (fault_text fault)
 reply_text Unavailable = codes "unavailable"
 reply_text OutOfMemory = codes "out of memory"
 reply_text Unkeyed = codes "unkeyed"
-reply_text (QuotaReached name size) = codes "quota" ++ spaced name ++ number size
+reply_text (QuotaReached name size) = codes "quota" ++ word name ++ number size
 
 -- the line of a call: its line in the script, its identity and the reply
 abbrev pub call_line : ℕ → ℕ → Reply → List ℕ
-call_line line who reply = decimal line ++ number who ++ spaced (reply_text reply) ++ 10 ∷ []
+call_line line who reply = decimal line ++ number who ++ word (reply_text reply) ++ line_feed ∷ []
 
 -- the line of a file: its path, its size and its SHA-256
 abbrev pub file_line : List ℕ × List ℕ → List ℕ
-file_line file = codes "file" ++ spaced file.0 ++ number (length file.1) ++ spaced (encode_lower (sha256 file.1)) ++ 10 ∷ []
+file_line file = codes "file" ++ word file.0 ++ number (length file.1) ++ word (encode_lower (sha256 file.1)) ++ line_feed ∷ []
 
 -- a line a file, in the order of the bytes of their paths
 abbrev pub files_text : FileMap → List ℕ
@@ -79,27 +81,22 @@ files_text files = flat_map file_line (entries files)
 
 -- the first line: the hash of the policy
 abbrev pub policy_line : List ℕ → List ℕ
-policy_line hash = codes "policy" ++ spaced hash ++ 10 ∷ []
-
--- the machine's replies to the calls of a script, in order
-abbrev pub replies_of : Origin → FileMap → List Line → List Reply
-replies_of origin files [] = []
-replies_of origin files (line ∷ others) = let outcome = step origin files line.who line.call in outcome.0 ∷ replies_of origin outcome.1 others
-
--- the files that the calls of a script leave
-abbrev pub files_of : Origin → FileMap → List Line → FileMap
-files_of origin files [] = files
-files_of origin files (line ∷ others) = files_of origin (step origin files line.who line.call).1 others
+policy_line hash = codes "policy" ++ word hash ++ line_feed ∷ []
 
 -- the lines of the calls, each with its reply
 abbrev pub call_lines : List Line → List Reply → List ℕ
 call_lines script replies = flat_map (λ call. call_line call.0.line call.0.who call.1) (zip script replies)
 
+-- what the calls of a script come to, from these files on
+abbrev pub script_replay : Origin → FileMap → List Line → Replay
+script_replay origin files script = replay origin files (calls_of script)
+
 -- the lines of a script's calls, from these files on
 abbrev pub script_lines : Origin → FileMap → List Line → List ℕ
-script_lines origin files script = call_lines script (replies_of origin files script)
+script_lines origin files script = call_lines script (script_replay origin files script).replies
 
 -- What a replay writes: the policy's hash, a line a call with the machine's reply, and a line a file that is left.
 abbrev pub replay_text : Origin → List Line → List ℕ
 replay_text origin script =
-    policy_line origin.hash ++ script_lines origin origin.opening script ++ files_text (files_of origin origin.opening script)
+    policy_line origin.hash ++ script_lines origin origin.opening script
+    ++ files_text (script_replay origin origin.opening script).files

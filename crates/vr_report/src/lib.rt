@@ -3,10 +3,8 @@
 
 mod reading;
 mod script;
-#[cfg(test)]
-mod tests;
 mod texts;
 mod writer;
 
 pub use script::{Line, MOST_SCRIPT, Script, ScriptFault, read_script};
-pub use texts::{call_line, file_line, file_text, policy_line, reply_text};
+pub use texts::{add_call_line, add_file_line, add_policy_line, file_text, reply_text};

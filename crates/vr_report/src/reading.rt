@@ -1,12 +1,17 @@
-ghost use Rattle.std.specs.Prelude.{◌≡◌, [], ◌∷◌, option_map};
+ghost use Rattle.std.specs.Prelude.{◌≡◌, ◌==◌, [], ◌∷◌};
 ghost use Rattle.std.specs.Char.{is_ascii_digit};
-ghost use Rattle.std.specs.List.{list_all};
+ghost use Rattle.std.specs.List.{list_all, list_any};
+ghost use Rattle.std.specs.Option.{option_copied};
 ghost use Rattle.vr_base.specs.Cuts.{parts_at, parts_left};
-ghost use Rattle.vr_report.specs.Answers.{Reads};
-ghost use Rattle.vr_report.specs.Script.{has_leading_zero, is_numeral, id_of, name_of, body_of, call_of, asked_by, words_of};
+ghost use Rattle.vr_base.specs.Signs.{space, carriage_return};
+ghost use Rattle.vr_report.specs.Lines.{Gives, has_leading_zero, is_numeral, id_of, name_of, empty_of, text_of, hex_of, byte_of, count_of, fill_of, content_of, call_of, asked_by, words_of};
 
-use std::alloc::Global;
-use vr_base::{Bytes, Call, NoMemory, PathFault, cut_at, parse_path};
+use hex::FromHexError;
+use std::alloc::{AllocError, Global};
+use vr_base::{Bytes, Call, NoMemory, cut_at};
+
+/// The most bytes that a line fills: one more than a file may have.
+const MOST_FILL: u32 = 16_777_217;
 
 /// Why a line, or a word of it, was not read.
 #[derive(Clone, Copy, Debug)]
@@ -23,6 +28,17 @@ impl From<NoMemory> for LineFault {
     ghost from_gives = { λ _ e. e ≡ OutOfMemory };
 
     fn from(_refused: NoMemory) -> LineFault {
+        LineFault::OutOfMemory
+    }
+}
+
+impl From<AllocError> for LineFault {
+    ghost use Rattle.vr_report.specs.declared.reading.LineFault.TheVariants.{OutOfMemory};
+    ghost use Rattle.std.specs.Prelude.{◌≡◌};
+
+    ghost from_gives = { λ _ e. e ≡ OutOfMemory };
+
+    fn from(_refused: AllocError) -> LineFault {
         LineFault::OutOfMemory
     }
 }
@@ -46,9 +62,9 @@ fn is_numeral(word: &[u8]) -> bool
     !word.is_empty() && are_digits(word) && !has_leading_zero(word)
 }
 
-/// The identity of 32 bits that a word names.
+/// The number of 32 bits that a word names.
 fn read_id(word: &[u8]) -> Result<u32, LineFault>
-    ensures { Reads (λ id. id) result (id_of word.now) }
+    ensures { Gives result (id_of word.now) }
 {
     if !is_numeral(word) {
         return Err(LineFault::Form);
@@ -59,43 +75,140 @@ fn read_id(word: &[u8]) -> Result<u32, LineFault>
     digits.parse::<u32>().or(Err(LineFault::Form))
 }
 
-/// A file's name as it is, which has to stand for a path.
-fn read_name(alloc: Global, word: &[u8]) -> Result<Bytes, LineFault>
-    ensures { Reads (λ name. name) result (name_of word.now) }
+fn has_return(word: &[u8]) -> bool
+    ensures { result ≡ list_any (λ b. b == carriage_return) word.now }
 {
-    match parse_path(alloc, word) {
-        Ok(_) => Ok(Bytes::from_slice(alloc, word)?),
-        Err(PathFault::OutOfMemory) => Err(LineFault::OutOfMemory),
+    word.iter().any(|b| *b == b'\r')
+}
+
+/// A file's name as it is, which need not be a path's.
+fn read_name(alloc: Global, word: &[u8]) -> Result<Bytes, LineFault>
+    ensures { Gives result (name_of word.now) }
+{
+    if word.is_empty() || has_return(word) {
+        return Err(LineFault::Form);
+    }
+    Ok(Bytes::from_slice(alloc, word)?)
+}
+
+/// No bytes, where nothing comes after their kind.
+#[tactic(auto, using(crate::proofs::Contents::empty_without_words))]
+fn read_empty(alloc: Global, rest: Option<&[u8]>) -> Result<Bytes, LineFault>
+    ensures { Gives result (empty_of (parts_left space (option_copied rest.entry))) }
+{
+    match rest {
+        None => Ok(Bytes::of(Vec::new(alloc))),
+        Some(_) => Err(LineFault::Form),
+    }
+}
+
+/// All that is left of a line.
+#[tactic(auto, using(crate::proofs::Contents::text_of_words))]
+fn read_text(alloc: Global, rest: Option<&[u8]>) -> Result<Bytes, LineFault>
+    ensures { Gives result (text_of (parts_left space (option_copied rest.entry))) }
+{
+    match rest {
+        None => Err(LineFault::Form),
+        Some(text) => Ok(Bytes::from_slice(alloc, text)?),
+    }
+}
+
+/// The bytes that hex digits spell.
+fn read_digits(alloc: Global, digits: &[u8]) -> Result<Bytes, LineFault>
+    ensures { Gives result (hex_of (digits.now ∷ [])) }
+{
+    if digits.is_empty() {
+        return Err(LineFault::Form);
+    }
+    match hex::decode(alloc, digits) {
+        Ok(bytes) => Ok(Bytes::of(bytes)),
+        Err(FromHexError::OutOfMemory) => Err(LineFault::OutOfMemory),
         Err(_) => Err(LineFault::Form),
     }
 }
 
-/// A body: its kind, and what stands behind that and a space.
-#[tactic(auto, using(crate::proofs::Parts::body_of_text))]
-fn read_body(alloc: Global, kind: &[u8], rest: Option<&[u8]>) -> Result<Bytes, LineFault>
-    ensures { Reads (λ body. body) result (body_of kind.now (parts_left 32 (option_map (λ r. r.now) rest.entry))) }
+/// The bytes that one word of hex digits spells.
+#[tactic(auto, using(crate::proofs::Contents::hex_of_more))]
+fn read_hex(alloc: Global, rest: Option<&[u8]>) -> Result<Bytes, LineFault>
+    ensures { Gives result (hex_of (parts_left space (option_copied rest.entry))) }
 {
-    match rest {
-        None => {
-            if kind == b"empty".as_slice() {
-                Ok(Bytes::of(Vec::new(alloc)))
-            } else {
-                Err(LineFault::Form)
-            }
-        }
-        Some(text) => {
-            if kind == b"text".as_slice() {
-                Ok(Bytes::from_slice(alloc, text)?)
-            } else {
-                Err(LineFault::Form)
-            }
-        }
+    let Some(words) = rest else {
+        return Err(LineFault::Form);
+    };
+    match cut_at(words, b' ') {
+        (digits, None) => read_digits(alloc, digits),
+        (_, Some(_)) => Err(LineFault::Form),
+    }
+}
+
+/// The byte that two hex digits spell.
+fn read_byte(digits: &[u8]) -> Result<u8, LineFault>
+    ensures { Gives result (byte_of digits.now) }
+{
+    let mut byte = [0];
+    match hex::decode_to_slice(digits, &mut byte) {
+        Ok(()) => Ok(byte[0]),
+        Err(_) => Err(LineFault::Form),
+    }
+}
+
+/// How many bytes a line fills.
+fn read_count(word: &[u8]) -> Result<u32, LineFault>
+    ensures { Gives result (count_of word.now) }
+{
+    let count = read_id(word)?;
+    if count > MOST_FILL {
+        return Err(LineFault::Form);
+    }
+    Ok(count)
+}
+
+/// A byte, so many times.
+fn read_times(alloc: Global, digits: &[u8], count: &[u8]) -> Result<Bytes, LineFault>
+    ensures { Gives result (fill_of (digits.now ∷ count.now ∷ [])) }
+{
+    let byte = read_byte(digits)?;
+    let times = read_count(count)?;
+    Ok(Bytes::of(vec![in alloc; byte; times as usize]?))
+}
+
+/// A byte and how many times it comes, in two words.
+#[tactic(auto, using(crate::proofs::Contents::fill_of_more))]
+fn read_fill(alloc: Global, rest: Option<&[u8]>) -> Result<Bytes, LineFault>
+    ensures { Gives result (fill_of (parts_left space (option_copied rest.entry))) }
+{
+    let Some(words) = rest else {
+        return Err(LineFault::Form);
+    };
+    let (digits, Some(words)) = cut_at(words, b' ') else {
+        return Err(LineFault::Form);
+    };
+    match cut_at(words, b' ') {
+        (count, None) => read_times(alloc, digits, count),
+        (_, Some(_)) => Err(LineFault::Form),
+    }
+}
+
+/// What is written: its kind, and what comes after that and a space.
+fn read_content(alloc: Global, kind: &[u8], rest: Option<&[u8]>) -> Result<Bytes, LineFault>
+    ensures { Gives result (content_of kind.now (parts_left space (option_copied rest.entry))) }
+{
+    if kind == b"empty".as_slice() {
+        read_empty(alloc, rest)
+    } else if kind == b"text".as_slice() {
+        read_text(alloc, rest)
+    } else if kind == b"hex".as_slice() {
+        read_hex(alloc, rest)
+    } else if kind == b"fill".as_slice() {
+        read_fill(alloc, rest)
+    } else {
+        Err(LineFault::Form)
     }
 }
 
 /// The call of a word alone.
 fn read_bare(verb: &[u8]) -> Result<Call, LineFault>
-    ensures { Reads (λ call. call) result (call_of (verb.now ∷ [])) }
+    ensures { Gives result (call_of (verb.now ∷ [])) }
 {
     if verb == b"hash".as_slice() {
         Ok(Call::Hash)
@@ -106,7 +219,7 @@ fn read_bare(verb: &[u8]) -> Result<Call, LineFault>
 
 /// The call of a word and a name.
 fn read_named(alloc: Global, verb: &[u8], name: &[u8]) -> Result<Call, LineFault>
-    ensures { Reads (λ call. call) result (call_of (verb.now ∷ name.now ∷ [])) }
+    ensures { Gives result (call_of (verb.now ∷ name.now ∷ [])) }
 {
     if verb == b"read".as_slice() {
         let name = read_name(alloc, name)?;
@@ -116,24 +229,28 @@ fn read_named(alloc: Global, verb: &[u8], name: &[u8]) -> Result<Call, LineFault
     }
 }
 
-/// The call of a word, a name and a body.
-#[tactic(auto, using(crate::proofs::Parts::call_of_body))]
-fn read_full(alloc: Global, verb: &[u8], name: &[u8], body: &[u8]) -> Result<Call, LineFault>
-    ensures { Reads (λ call. call) result (call_of (verb.now ∷ name.now ∷ parts_at 32 body.now)) }
+/// The call of a word, a name and what is written.
+#[tactic(auto, using(crate::proofs::Contents::call_of_content))]
+fn read_full(alloc: Global, verb: &[u8], name: &[u8], content: &[u8]) -> Result<Call, LineFault>
+    ensures { Gives result (call_of (verb.now ∷ name.now ∷ parts_at space content.now)) }
 {
-    let (kind, rest) = cut_at(body, b' ');
+    let (kind, rest) = cut_at(content, b' ');
     if verb == b"write".as_slice() {
         let name = read_name(alloc, name)?;
-        let body = read_body(alloc, kind, rest)?;
+        let body = read_content(alloc, kind, rest)?;
         Ok(Call::Write { name, body })
+    } else if verb == b"append".as_slice() {
+        let name = read_name(alloc, name)?;
+        let body = read_content(alloc, kind, rest)?;
+        Ok(Call::Append { name, body })
     } else {
         Err(LineFault::Form)
     }
 }
 
-/// The call of the words behind a line's first.
+/// The call of the words after a line's first.
 fn read_words(alloc: Global, words: &[u8]) -> Result<Call, LineFault>
-    ensures { Reads (λ call. call) result (call_of (parts_at 32 words.now)) }
+    ensures { Gives result (call_of (parts_at space words.now)) }
 {
     let (verb, rest) = cut_at(words, b' ');
     match rest {
@@ -142,7 +259,7 @@ fn read_words(alloc: Global, words: &[u8]) -> Result<Call, LineFault>
             let (name, rest) = cut_at(rest, b' ');
             match rest {
                 None => read_named(alloc, verb, name),
-                Some(body) => read_full(alloc, verb, name, body),
+                Some(content) => read_full(alloc, verb, name, content),
             }
         }
     }
@@ -150,7 +267,7 @@ fn read_words(alloc: Global, words: &[u8]) -> Result<Call, LineFault>
 
 /// The identity and the call of a line.
 pub fn read_call(alloc: Global, line: &[u8]) -> Result<(u32, Call), LineFault>
-    ensures { Reads (λ asked. (asked.0, asked.1)) result (asked_by (words_of line.now)) }
+    ensures { Gives result (asked_by (words_of line.now)) }
 {
     let (id, rest) = cut_at(line, b' ');
     let who = read_id(id)?;

@@ -1,14 +1,13 @@
 ghost use Rattle.std.specs.Prelude.{◌≡◌, ◌∷◌, ◌<◌, length};
 ghost use Rattle.std.specs.Str.Lines.{lines, strip_carriage_return};
-ghost use Rattle.vr_report.specs.Answers.{Gives};
-ghost use Rattle.vr_report.specs.Script.{line_of, most_script, script_of};
+ghost use Rattle.vr_report.specs.Script.{Gives, line_of, most_script, script_of};
 
 use crate::reading::{LineFault, read_call};
 use std::alloc::{AllocFailed, Global};
 use vr_base::{Call, List, cut_at};
 
 /// The most bytes of a script.
-pub const MOST_SCRIPT: usize = 1_048_576;
+pub const MOST_SCRIPT: usize = 67_108_864;
 
 /// A call that a script asks for.
 #[derive(Debug, Drop)]
@@ -49,7 +48,7 @@ fn strip_return(part: &[u8]) -> &[u8]
     part.strip_suffix(b"\r").unwrap_or(part)
 }
 
-/// The first line of a text, and the text behind it.
+/// The first line of a text, and the text after it.
 #[tactic(auto, using(crate::proofs::Parts::lines_cut))]
 fn cut_line(text: &[u8]) -> (&[u8], &[u8])
     requires { 0 < length text.now }
@@ -65,7 +64,7 @@ fn cut_line(text: &[u8]) -> (&[u8], &[u8])
 
 /// The call of the line of this number, where the line isn't passed over.
 fn read_line(alloc: Global, number: u32, text: &[u8]) -> Result<Option<Line>, ScriptFault>
-    ensures { Gives (λ line. line) result (line_of number text.now) }
+    ensures { Gives result (line_of number text.now) }
 {
     if text.is_empty() || text.starts_with(b"#") {
         return Ok(None);
@@ -81,15 +80,20 @@ fn read_line(alloc: Global, number: u32, text: &[u8]) -> Result<Option<Line>, Sc
     }
 }
 
-/// The calls of a script. It has at most 1,048,576 bytes. Each of its lines ends with an LF, which the last may lack, and
+/// The calls of a script. It has at most 67,108,864 bytes. Each of its lines ends with an LF, which the last may lack, and
 /// a CR before the LF is dropped. Empty lines and lines that begin with `#` are passed over. Another line is words with
-/// one space between each two: `ID read NAME`, `ID write NAME empty`, `ID write NAME text REST` or `ID hash`. The
-/// identity is 0 to 4,294,967,295 in decimal digits without a leading zero, the name has to stand for a path, and the
-/// rest is all that is left of the line, or nothing. Names and bodies are kept as they stand.
+/// one space between each two:
+///
+/// - `ID read NAME`, `ID write NAME CONTENT`, `ID append NAME CONTENT` and `ID hash`;
+/// - a content is `empty`, or `text` and all that is left of the line after a space, or `hex` and an even number of hex
+///   digits, two at least, or `fill` with a byte in two hex digits and how often it comes, at most 16,777,217 times.
+///
+/// An identity is 0 to 4,294,967,295, in decimal digits without a leading zero. A name is one byte or more, whether it
+/// stands for a path or not, and is kept as it is.
 ///
 /// The fault is that of the first line in another form.
 pub fn read_script(alloc: Global, bytes: &[u8]) -> Result<Script, ScriptFault>
-    ensures { Gives (λ script. script) result (script_of most_script bytes.now) }
+    ensures { Gives result (script_of most_script bytes.now) }
 {
     if bytes.len() > MOST_SCRIPT {
         return Err(ScriptFault::Line(0));

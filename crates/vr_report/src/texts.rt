@@ -84,21 +84,24 @@ pub fn reply_text(alloc: Global, reply: &Reply) -> Result<Bytes, NoMemory>
     Ok(write_reply(Writer::new(alloc), reply)?.finish())
 }
 
-/// The line of a call, which stood in this line of the script: the identity that called and what it was answered.
+/// The text with the line of a call, which stood in this line of the script: the identity that called and what it was
+/// answered. Without memory for it the text is dropped.
 #[tactic(auto, using(std::proofs::Common::append_assoc))]
-pub fn call_line(alloc: Global, line: u32, who: u32, reply: &Reply) -> Result<Bytes, NoMemory>
-    ensures { IfOk result (λ text. text ≡ call_line line who reply.now) }
+pub fn add_call_line(text: Bytes, line: u32, who: u32, reply: &Reply) -> Result<Bytes, NoMemory>
+    ensures { IfOk result (λ added. added ≡ text ++ call_line line who reply.now) }
 {
-    let asked = Writer::new(alloc).digits(line)?.number(who)?.bytes(b" ")?;
+    let asked = Writer::on(text).digits(line)?.number(who)?.bytes(b" ")?;
     Ok(write_reply(asked, reply)?.bytes(b"\n")?.finish())
 }
 
-/// The first line of a replay: the hash of the policy file, in 64 hex digits.
-pub fn policy_line(alloc: Global, hash: &[u8; 64]) -> Result<Bytes, NoMemory>
-    ensures { IfOk result (λ text. text ≡ policy_line hash.now) }
+/// The text with the first line of a replay: the hash of the policy file, in 64 hex digits. Without memory for it the text
+/// is dropped.
+#[tactic(auto, using(std::proofs::Common::append_assoc))]
+pub fn add_policy_line(text: Bytes, hash: &[u8; 64]) -> Result<Bytes, NoMemory>
+    ensures { IfOk result (λ added. added ≡ text ++ policy_line hash.now) }
 {
     Ok(
-        Writer::new(alloc)
+        Writer::on(text)
             .bytes(b"policy")?
             .word(hash)?
             .bytes(b"\n")?
@@ -118,11 +121,12 @@ fn write_file(text: Writer, path: &Path, body: &Bytes) -> Result<Writer, NoMemor
         .bytes(b"\n")
 }
 
-/// The line of a file: its path, its size in bytes and its SHA-256.
-pub fn file_line(alloc: Global, path: &Path, body: &Bytes) -> Result<Bytes, NoMemory>
-    ensures { IfOk result (λ text. text ≡ file_line (path.now, body.now)) }
+/// The text with the line of a file: its path, its size in bytes and its SHA-256. Without memory for it the text is
+/// dropped.
+pub fn add_file_line(text: Bytes, path: &Path, body: &Bytes) -> Result<Bytes, NoMemory>
+    ensures { IfOk result (λ added. added ≡ text ++ file_line (path.now, body.now)) }
 {
-    Ok(write_file(Writer::new(alloc), path, body)?.finish())
+    Ok(write_file(Writer::on(text), path, body)?.finish())
 }
 
 /// A line a file, in the byte order of their paths.

@@ -1,7 +1,7 @@
 ghost use Rattle.std.specs.Prelude.{◌≡◌, [], ◌++◌, length, IfOk};
 ghost use Rattle.hex.specs.Hex.{encode_lower};
 ghost use Rattle.sha2.specs.Sha256.{sha256};
-ghost use Rattle.vr_report.specs.Texts.{spaced, sized_bytes};
+ghost use Rattle.vr_report.specs.Texts.{word, sized_bytes};
 
 use itoa::{Buffer, Integer};
 use sha2::{Digest, Sha256};
@@ -33,6 +33,15 @@ impl Writer {
         }
     }
 
+    /// A text that goes on from these bytes, which are not copied.
+    pub fn on(bytes: Bytes) -> Writer
+        ensures { result ≡ bytes }
+    {
+        Writer {
+            text: bytes.into_vec(),
+        }
+    }
+
     /// Adds the bytes as they are.
     pub fn bytes(mut self, bytes: &[u8]) -> Result<Writer, NoMemory>
         ensures { IfOk result (λ text. text ≡ self ++ bytes.now) }
@@ -42,10 +51,10 @@ impl Writer {
     }
 
     /// Adds a space and a word.
-    pub fn word(self, word: &[u8]) -> Result<Writer, NoMemory>
-        ensures { IfOk result (λ text. text ≡ self ++ spaced word.now) }
+    pub fn word(self, letters: &[u8]) -> Result<Writer, NoMemory>
+        ensures { IfOk result (λ text. text ≡ self ++ word letters.now) }
     {
-        self.bytes(b" ")?.bytes(word)
+        self.bytes(b" ")?.bytes(letters)
     }
 
     /// Adds the decimal digits of a number.
@@ -58,7 +67,7 @@ impl Writer {
 
     /// Adds a space and the decimal digits of a number.
     pub fn number<N: Integer>(self, number: N) -> Result<Writer, NoMemory>
-        ensures { IfOk result (λ text. text ≡ self ++ spaced (N.text number)) }
+        ensures { IfOk result (λ text. text ≡ self ++ word (N.text number)) }
     {
         self.bytes(b" ")?.digits(number)
     }
@@ -76,15 +85,15 @@ impl Writer {
         Ok(self)
     }
 
-    /// Adds words and, behind a space, the path that they speak of.
+    /// Adds words and, after a space, the path that they speak of.
     #[tactic(auto, using(std::proofs::Common::append_assoc))]
     pub fn about(self, words: &[u8], path: &Path) -> Result<Writer, NoMemory>
-        ensures { IfOk result (λ text. text ≡ self ++ (words.now ++ spaced path.now)) }
+        ensures { IfOk result (λ text. text ≡ self ++ (words.now ++ word path.now)) }
     {
         self.bytes(words)?.word(path.as_slice())
     }
 
-    /// Adds the number of the bytes and their hex digits, each behind a space, or a dash where there are no bytes.
+    /// Adds the number of the bytes and their hex digits, each after a space, or a dash where there are no bytes.
     pub fn sized_bytes(self, bytes: &Bytes) -> Result<Writer, NoMemory>
         ensures { IfOk result (λ text. text ≡ self ++ sized_bytes bytes.now) }
     {
@@ -99,7 +108,7 @@ impl Writer {
 
     /// Adds a space and the SHA-256 (FIPS 180-4) of the bytes in lower-case hex digits.
     pub fn hash(self, bytes: &[u8]) -> Result<Writer, NoMemory>
-        ensures { IfOk result (λ text. text ≡ self ++ spaced (encode_lower (sha256 bytes.now))) }
+        ensures { IfOk result (λ text. text ≡ self ++ word (encode_lower (sha256 bytes.now))) }
     {
         let digest = Sha256::digest(bytes);
         self.bytes(b" ")?.hex(&digest)

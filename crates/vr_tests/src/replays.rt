@@ -1,8 +1,9 @@
 use crate::world::{FINE, ITS_HASH, Outside, WRITER_AND_READER, run};
+use std::alloc::{AllocError, Global};
 use std::test::Fail;
 use vr_cli::Status;
 
-/// Scripts under the policy, and the lines behind the first that a replay writes. The hashes are those of `abc` and of no
+/// Scripts under the policy, and the lines after the first that a replay writes. The hashes are those of `abc` and of no
 /// bytes.
 const SCRIPTS: [(&str, &str); 6] = [
     (
@@ -63,7 +64,6 @@ fn each_fault_of_the_outside_is_told(rt: HostRuntime) -> Result<(), Fail> {
     let alloc = rt.alloc();
     let words = ["replay", "P", "S"];
     let script = "1 write /in text abc\n2 read in\n";
-    let whole = run(alloc, &words, WRITER_AND_READER, script, FINE)?;
     for failing in 0..2 {
         let outside = Outside {
             folder: &[failing],
@@ -73,20 +73,14 @@ fn each_fault_of_the_outside_is_told(rt: HostRuntime) -> Result<(), Fail> {
         assert_eq!(rt; ended.status, Status::ReadFault);
         assert!(rt; ended.text.is_empty());
     }
-    // The text has four lines, each a write.
-    for failing in 0..4 {
-        let outside = Outside {
-            sink: &[failing],
-            ..FINE
-        };
-        let ended = run(alloc, &words, WRITER_AND_READER, script, outside)?;
-        assert_eq!(rt; ended.status, Status::WriteFault);
-        assert!(rt; whole.text.as_slice().starts_with(ended.text.as_slice()));
-        assert!(rt; ended.text.len() < whole.text.len());
-    }
+    // The text is one piece, which the sink takes at once.
+    let outside = Outside { sink: &[0], ..FINE };
+    let ended = run(alloc, &words, WRITER_AND_READER, script, outside)?;
+    assert_eq!(rt; ended.status, Status::WriteFault);
+    assert!(rt; ended.text.is_empty());
     let late = Outside {
         folder: &[2],
-        sink: &[4],
+        sink: &[1],
         ..FINE
     };
     assert_eq!(rt;
@@ -123,6 +117,56 @@ fn a_sink_takes_what_fits(rt: HostRuntime) -> Result<(), Fail> {
         script,
         Outside { room: size, ..FINE },
     )?;
+    assert_eq!(rt; ended.status, Status::Ok);
+    Ok(())
+}
+
+/// How often the long script asks for the hash.
+const ASKED: u32 = 1_000;
+
+/// How many bytes are gathered before the sink sees them: a piece ends with the line that reaches so many.
+const PIECE: usize = 65_536;
+
+/// The text of a replay of so many lines `2 hash`.
+fn hashes(alloc: Global, lines: u32) -> Result<String, AllocError> {
+    let mut text = format!(in alloc; "policy {ITS_HASH}\n")?;
+    for line in 1..=lines {
+        text.push_str(format!(in alloc; "{line} 2 done hash {ITS_HASH}\n")?.as_str())?;
+    }
+    Ok(text)
+}
+
+#[test]
+fn a_long_text_goes_to_the_sink_in_pieces(rt: HostRuntime) -> Result<(), Fail> {
+    let alloc = rt.alloc();
+    let words = ["replay", "P", "S"];
+    let mut script = String::new(alloc);
+    for _ in 0..ASKED {
+        script.push_str("2 hash\n")?;
+    }
+    let wanted = hashes(alloc, ASKED)?;
+    let roomy = Outside {
+        room: 100_000,
+        ..FINE
+    };
+    let whole = run(alloc, &words, WRITER_AND_READER, script.as_str(), roomy)?;
+    assert_eq!(rt; whole.status, Status::Ok);
+    assert!(rt; whole.text.as_slice() == wanted.as_bytes());
+    // The second piece can't be written, and all of the first was.
+    let failing = Outside {
+        sink: &[1],
+        ..roomy
+    };
+    let ended = run(alloc, &words, WRITER_AND_READER, script.as_str(), failing)?;
+    assert_eq!(rt; ended.status, Status::WriteFault);
+    assert!(rt; wanted.as_bytes().starts_with(ended.text.as_slice()));
+    assert!(rt; ended.text.len() >= PIECE && ended.text.len() < PIECE + 100);
+    // There is no third piece.
+    let late = Outside {
+        sink: &[2],
+        ..roomy
+    };
+    let ended = run(alloc, &words, WRITER_AND_READER, script.as_str(), late)?;
     assert_eq!(rt; ended.status, Status::Ok);
     Ok(())
 }

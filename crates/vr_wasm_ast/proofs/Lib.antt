@@ -1,5 +1,5 @@
-pub mod Codes
-pub mod Cursors
-pub mod Numbers
-pub mod Powers
-pub mod Signed
+pub mod CursorLemmas
+pub mod InstructionLemmas
+pub mod NumberLemmas
+pub mod PowerLemmas
+pub mod SignedLemmas

@@ -1,4 +1,5 @@
--- The opcodes, and what follows each of them (WebAssembly Core 1.0, section 5.4), without floating point.
+-- The opcodes, and what follows each of them (WebAssembly Core 1.0, section 5.4, without floating point; Core 2.0,
+-- section 5.4.6, for memory.copy and memory.fill).
 use Rattle.std.specs.Prelude.{ℕ, Option, None, Some, Bool, true, false, if◌then◌else◌, ◌==◌, is_some, ◌||◌}
 use Rattle.vr_wasm_ast.specs.declared.instr.Instr.{Instr}
 use Rattle.vr_wasm_ast.specs.declared.instr.Instr.TheVariants.{Unreachable, Nop, Br, BrIf, Return, Call, Drop, Select, LocalGet, LocalSet, LocalTee, GlobalGet, GlobalSet, Load, Store, MemorySize, MemoryGrow, Numeric}
@@ -8,19 +9,21 @@ use Rattle.vr_wasm_ast.specs.Opcodes.{is_between, load_of, store_of, numeric_of}
 pub data Form : Type 0 where
   -- nothing
   then_nothing : Instr → Form
-  -- a byte that is 0
+  -- the byte of the index 0
   then_zero : Instr → Form
   -- an index
   then_index : (ℕ → Instr) → Form
   -- labels, and the default label
   then_labels : Form
-  -- the index of a type, and a byte that is 0
+  -- the index of a type, and the byte of the index 0
   then_type : Form
   -- the exponent of an alignment, and an offset
   then_access : (ℕ → ℕ → Instr) → Form
   -- a signed number of 32 bits, or of 64
   then_s32 : Form
   then_s64 : Form
+  -- the number of an instruction on a range of the memory, and what follows that number
+  then_number : Form
 
 -- an instruction of this opcode, where the test says so
 abbrev pub when : Bool → Form → Option Form
@@ -55,12 +58,14 @@ form_of op =
     else if op == 0x40 then Some (then_zero MemoryGrow)
     else if op == 0x41 then Some then_s32
     else if op == 0x42 then Some then_s64
+    else if op == 0xfc then Some then_number
     else family_of op
 
--- a type or an opcode of floating point
+-- a value type of floating point
 abbrev pub is_float_type : ℕ → Bool
 is_float_type b = is_between 0x7c 0x7d b
 
+-- an opcode of floating point
 abbrev pub is_float_opcode : ℕ → Bool
 is_float_opcode op =
     is_between 0x2a 0x2b op || is_between 0x38 0x39 op || is_between 0x43 0x44 op || is_between 0x5b 0x66 op

@@ -1,4 +1,5 @@
--- Grammars: which bytes spell which value. A grammar cuts the bytes into parts and says of each part what it spells.
+-- Grammars: which bytes spell which value (WebAssembly Core 1.0, section 5.1.1). A grammar cuts the bytes into parts and
+-- says of each part what it spells.
 use Rattle.std.specs.Prelude.{◌≡◌, ℕ, zero, suc, List, [], ◌∷◌, ◌++◌, length, ◌⊎◌}
 
 abbrev pub Grammar : Type 0 → Type 1
@@ -6,12 +7,12 @@ Grammar A = List ℕ → A → Type 0
 
 -- the bytes are those of the first part, which spell some value, and then those that it asks for
 pub record Sequence {A B : Type 0} (R : List ℕ → A → Type 0) (S : A → List ℕ → B → Type 0) (text : List ℕ) (b : B) : Type 0 where
-  pub front : List ℕ
-  pub back : List ℕ
+  pub prefix : List ℕ
+  pub suffix : List ℕ
   pub value : A
-  pub parts : text ≡ front ++ back
-  pub first : R front value
-  pub second : S value back b
+  pub parts : text ≡ prefix ++ suffix
+  pub first : R prefix value
+  pub second : S value suffix b
 
 infixl 10 ◌>>=◌
 abbrev pub ◌>>=◌ : {A B : Type 0} → Grammar A → (A → Grammar B) → Grammar B
@@ -22,9 +23,9 @@ abbrev pub gives : {A : Type 0} → A → Grammar A
 gives a text b = (text ≡ []) × (b ≡ a)
 
 -- this byte, and then the rest
-abbrev pub behind : {A : Type 0} → ℕ → Grammar A → Grammar A
-behind b R [] a = ⊥
-behind b R (c ∷ back) a = (c ≡ b) × R back a
+abbrev pub byte_then : {A : Type 0} → ℕ → Grammar A → Grammar A
+byte_then b R [] a = ⊥
+byte_then b R (c ∷ text) a = (c ≡ b) × R text a
 
 abbrev pub either : {A : Type 0} → Grammar A → Grammar A → Grammar A
 either R S text a = R text a ⊎ S text a

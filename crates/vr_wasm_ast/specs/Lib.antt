@@ -1,9 +1,12 @@
-pub mod Code
+pub mod Bytes
+pub mod Checks
 pub mod Forms
 pub mod Grammar
 pub mod Imports
+pub mod Instructions
 pub mod Limits
 pub mod Modules
 pub mod Numbers
 pub mod Opcodes
 pub mod Rest
+pub mod Sections

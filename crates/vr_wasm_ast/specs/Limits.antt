@@ -1,51 +1,66 @@
 -- The limits that every module of this project keeps.
 use Rattle.std.specs.Prelude.{◌≡◌, ℕ, ◌+◌, ◌≤◌, List, length, All, max}
-use Rattle.vr_wasm_ast.specs.Code.{Code, Codes, block, loop, either, branch_table, done, then, body_of}
+use Rattle.vr_wasm_ast.specs.Instructions.{Instruction, Instructions, block, loop, if_, br_table, done, then, instructions_of}
 use Rattle.vr_wasm_ast.specs.Imports.{imported_functions}
 use Rattle.vr_wasm_ast.specs.declared.instr.Instr.{Instr}
-use Rattle.vr_wasm_ast.specs.declared.tree.Code.{Code as FunctionBody}
+use Rattle.vr_wasm_ast.specs.declared.tree.Code.{Code}
 use Rattle.vr_wasm_ast.specs.declared.tree.Element.{Element}
 use Rattle.vr_wasm_ast.specs.declared.tree.FuncType.{FuncType}
 use Rattle.vr_wasm_ast.specs.declared.tree.GlobalDef.{GlobalDef}
 use Rattle.vr_wasm_ast.specs.declared.tree.Module.{Module}
 use Rattle.vr_wasm_ast.specs.declared.tree.Segment.{Segment}
 
--- so many items at most
+-- items of a vector, where no other limit is said; functions, imported ones counted
 abbrev pub most_items : ℕ
 most_items = 65536
 
+-- parameters of a function
+abbrev pub most_params : ℕ
+most_params = 1024
+
+-- results of a function
+abbrev pub most_results : ℕ
+most_results = 1
+
+-- locals that a function declares
+abbrev pub most_locals : ℕ
+most_locals = 8192
+
+-- blocks, loops and ifs that are open at one place
+abbrev pub most_nested : ℕ
+most_nested = 1024
+
 abbrev mutual
   -- how many blocks, loops and ifs are open at most at one place of the sequence
-  pub nesting : Codes → ℕ
+  pub nesting : Instructions → ℕ
   nesting done = 0
   nesting (then i is) = max (nesting_of i) (nesting is)
 
-  pub nesting_of : Code → ℕ
+  pub nesting_of : Instruction → ℕ
   nesting_of (block t body) = nesting body + 1
   nesting_of (loop t body) = nesting body + 1
-  nesting_of (either t taken other) = max (nesting taken) (nesting other) + 1
+  nesting_of (if_ t taken other) = max (nesting taken) (nesting other) + 1
   nesting_of i = 0
 
 abbrev mutual
   -- each table of labels has so many labels at most, its default not counted
-  pub TablesWithin : ℕ → Codes → Type 0
+  pub TablesWithin : ℕ → Instructions → Type 0
   TablesWithin most done = Unit {0}
   TablesWithin most (then i is) = TableWithin most i × TablesWithin most is
 
-  pub TableWithin : ℕ → Code → Type 0
-  TableWithin most (branch_table labels label) = length labels ≤ most
+  pub TableWithin : ℕ → Instruction → Type 0
+  TableWithin most (br_table labels label) = length labels ≤ most
   TableWithin most (block t body) = TablesWithin most body
   TableWithin most (loop t body) = TablesWithin most body
-  TableWithin most (either t taken other) = TablesWithin most taken × TablesWithin most other
+  TableWithin most (if_ t taken other) = TablesWithin most taken × TablesWithin most other
   TableWithin most i = Unit {0}
 
--- its blocks nest 1,024 deep at most, and its tables of labels are within the limit
+-- its blocks nest within the limit, and so do the counts of its tables of labels
 abbrev pub CodeWithin : List Instr → Type 0
-CodeWithin body = (nesting (body_of body) ≤ 1024) × TablesWithin most_items (body_of body)
+CodeWithin body = (nesting (instructions_of body) ≤ most_nested) × TablesWithin most_items (instructions_of body)
 
--- 1,024 parameters and one result at most
 abbrev pub TypeWithin : FuncType → Type 0
-TypeWithin sort = (length sort.params ≤ 1024) × (length sort.results ≤ 1)
+TypeWithin sort = (length sort.params ≤ most_params) × (length sort.results ≤ most_results)
 
 abbrev pub GlobalWithin : GlobalDef → Type 0
 GlobalWithin g = CodeWithin g.init
@@ -53,9 +68,8 @@ GlobalWithin g = CodeWithin g.init
 abbrev pub ElementWithin : Element → Type 0
 ElementWithin e = CodeWithin e.offset × (length e.functions ≤ most_items)
 
--- 8,192 declared locals at most
-abbrev pub BodyWithin : FunctionBody → Type 0
-BodyWithin c = (length c.locals ≤ 8192) × CodeWithin c.body
+abbrev pub BodyWithin : Code → Type 0
+BodyWithin c = (length c.locals ≤ most_locals) × CodeWithin c.body
 
 abbrev pub SegmentWithin : Segment → Type 0
 SegmentWithin s = CodeWithin s.offset

@@ -1,9 +1,10 @@
--- The module grammar (WebAssembly Core 1.0, chapter 5), without floating point and with this project's limits.
+-- The module grammar (WebAssembly Core 1.0, chapter 5, by whose sections it goes), without floating point, with this
+-- project's limits, and of Core 2.0 the sign extensions, memory.copy, memory.fill and the data count section.
 use Rattle.std.specs.Prelude.{◌≡◌, ℕ, suc, ◌-◌, ◌<◌, ◌≤◌, ℤ, List, [], ◌∷◌, ◌++◌, length, replicate, Option, None, Some, Bool, true, false}
 use Rattle.std.specs.List.{flat_map, sum_by}
 use Rattle.std.specs.Str.{IsUtf8}
 use Rattle.vr_wasm_ast.specs.declared.instr.Instr.{Instr}
-use Rattle.vr_wasm_ast.specs.declared.instr.Instr.TheVariants.{Block, Loop, If, BrTable, CallIndirect, I32Const, I64Const}
+use Rattle.vr_wasm_ast.specs.declared.instr.Instr.TheVariants.{Block, Loop, If, BrTable, CallIndirect, MemoryCopy, MemoryFill, I32Const, I64Const}
 use Rattle.vr_wasm_ast.specs.declared.tree.ValType.{ValType}
 use Rattle.vr_wasm_ast.specs.declared.tree.ValType.TheVariants.{I32, I64}
 use Rattle.vr_wasm_ast.specs.declared.tree.FuncType.{FuncType}
@@ -20,13 +21,20 @@ use Rattle.vr_wasm_ast.specs.declared.tree.Element.{Element}
 use Rattle.vr_wasm_ast.specs.declared.tree.Code.{Code}
 use Rattle.vr_wasm_ast.specs.declared.tree.Segment.{Segment}
 use Rattle.vr_wasm_ast.specs.declared.tree.Module.{Module}
+use Rattle.vr_wasm_ast.specs.declared.sections.Progress.{Progress}
+use Rattle.vr_wasm_ast.specs.declared.sections.Section.{Section}
+use Rattle.vr_wasm_ast.specs.declared.sections.Section.TheVariants.{Types, Imports, Functions, Tables, Memories, Globals, Exports, Start, Elements, DataCount, Codes, Segments}
+use Rattle.vr_wasm_ast.specs.Bytes.{i32_byte, i64_byte, no_result_byte, function_type_byte, function_elements_byte, minimum_byte, maximum_byte, constant_byte, variable_byte, block_opcode, loop_opcode, if_opcode, else_byte, end_byte, zero_index_byte, memory_copy_number, memory_fill_number, function_kind, table_kind, memory_kind, global_kind, custom_id, header}
 use Rattle.vr_wasm_ast.specs.Imports.{imported_functions}
+use Rattle.vr_wasm_ast.specs.Limits.{most_items, most_params, most_results, most_locals, most_nested, HasCodeForEach}
 use Rattle.vr_wasm_ast.specs.Numbers.{IsUnsigned, IsSigned}
-use Rattle.vr_wasm_ast.specs.Grammar.{Grammar, ◌>>=◌, gives, behind, either, where_, many, of_length, bytes, then_any}
-use Rattle.vr_wasm_ast.specs.Forms.{Form, then_nothing, then_zero, then_index, then_labels, then_type, then_access, then_s32, then_s64, form_of}
+use Rattle.vr_wasm_ast.specs.Sections.{section_of, rank_of}
+use Rattle.vr_wasm_ast.specs.Grammar.{Grammar, ◌>>=◌, gives, byte_then, either, where_, many, of_length, bytes, then_any}
+use Rattle.vr_wasm_ast.specs.Forms.{Form, then_nothing, then_zero, then_index, then_labels, then_type, then_access, then_s32, then_s64, then_number, form_of}
 
--- ---- numbers, vectors and names
+-- ---- values (section 5.2)
 
+-- 5.2.2
 abbrev pub u32 : Grammar ℕ
 u32 = IsUnsigned 32
 
@@ -42,7 +50,7 @@ count limit = do
   n ← u32
   where_ (n ≤ limit) (gives n)
 
--- a count, at most the limit, and so many items
+-- a count, at most the limit, and so many items (5.1.3)
 abbrev pub vector : {A : Type 0} → ℕ → Grammar A → Grammar (List A)
 vector limit R = do
   n ← count limit
@@ -58,6 +66,7 @@ data_bytes = do
 abbrev pub utf8 : List ℕ → Grammar (List ℕ)
 utf8 name = where_ (IsUtf8 name) (gives name)
 
+-- 5.2.4
 abbrev pub name : Grammar (List ℕ)
 name = do
   n ← u32
@@ -65,41 +74,45 @@ name = do
   utf8 text
 
 -- a size, and in so many bytes the item
-abbrev pub sized : {A : Type 0} → Grammar A → Grammar A
-sized R = do
+abbrev pub in_contents : {A : Type 0} → Grammar A → Grammar A
+in_contents R = do
   n ← u32
   of_length n R
 
--- ---- types
+-- ---- types (section 5.3)
 
+-- 5.3.1
 abbrev pub val_type : Grammar ValType
-val_type = either (behind 0x7f (gives I32)) (behind 0x7e (gives I64))
+val_type = either (byte_then i32_byte (gives I32)) (byte_then i64_byte (gives I64))
 
+-- 5.3.3
 abbrev pub func_type : Grammar FuncType
-func_type = behind 0x60 (do
-  params ← vector 1024 val_type
-  results ← vector 1 val_type
+func_type = byte_then function_type_byte (do
+  params ← vector most_params val_type
+  results ← vector most_results val_type
   gives (record { params = params; results = results }))
 
 abbrev pub bounds : ℕ → Option ℕ → Limits
 bounds min max = record { min = min; max = max }
 
+-- of a table, or of a memory, whose type they are (5.3.4 and 5.3.5)
 abbrev pub limits : Grammar Limits
 limits = either
-    (behind 0x00 (do
+    (byte_then minimum_byte (do
       min ← u32
       gives (bounds min None)))
-    (behind 0x01 (do
+    (byte_then maximum_byte (do
       min ← u32
       max ← u32
       gives (bounds min (Some max))))
 
+-- 5.3.6
 abbrev pub table_type : Grammar Limits
-table_type = behind 0x70 limits
+table_type = byte_then function_elements_byte limits
 
--- whether a global may be set
+-- whether a global may be set (5.3.7)
 abbrev pub flag : Grammar Bool
-flag = either (behind 0x00 (gives false)) (behind 0x01 (gives true))
+flag = either (byte_then constant_byte (gives false)) (byte_then variable_byte (gives true))
 
 abbrev pub global_type : Grammar GlobalType
 global_type = do
@@ -107,13 +120,23 @@ global_type = do
   variable ← flag
   gives (record { value = value; variable = variable })
 
--- ---- instructions
+-- ---- instructions (section 5.4)
 
+-- 5.3.2
 abbrev pub block_type : Grammar (Option ValType)
-block_type = either (behind 0x40 (gives None)) (either (behind 0x7f (gives (Some I32))) (behind 0x7e (gives (Some I64))))
+block_type =
+    either (byte_then no_result_byte (gives None))
+    (either (byte_then i32_byte (gives (Some I32))) (byte_then i64_byte (gives (Some I64))))
 
+-- the index of the one table or memory, after which nothing follows
 abbrev pub zero_byte : {A : Type 0} → A → Grammar A
-zero_byte a = behind 0x00 (gives a)
+zero_byte a = byte_then zero_index_byte (gives a)
+
+-- what follows the number of an instruction on a range of the memory (Core 2.0, 5.4.6)
+abbrev pub range_operands : ℕ → Grammar Instr
+range_operands n =
+    either (where_ (n ≡ memory_copy_number) (byte_then zero_index_byte (zero_byte MemoryCopy)))
+    (where_ (n ≡ memory_fill_number) (zero_byte MemoryFill))
 
 -- what follows the opcode of an instruction that has no instructions in it
 abbrev pub operands : Form → Grammar Instr
@@ -123,7 +146,7 @@ operands (then_index f) = do
   n ← u32
   gives (f n)
 operands then_labels = do
-  labels ← vector 65536 u32
+  labels ← vector most_items u32
   last ← u32
   gives (BrTable labels last)
 operands then_type = do
@@ -139,8 +162,11 @@ operands then_s32 = do
 operands then_s64 = do
   z ← s64
   gives (I64Const z)
+operands then_number = do
+  n ← u32
+  range_operands n
 
--- The bytes spell these instructions, in which blocks nest at most so deep: nothing; an instruction that has none in
+-- The bytes spell these instructions, in which blocks nest at most so deep (5.4.1): nothing; an instruction that has none in
 -- it, and others; a block, a loop, or an `if` without or with `else`, and others.
 pub data Spells : ℕ → List ℕ → List Instr → Type 0 where
   nothing : {deep : ℕ} → Spells deep [] []
@@ -149,41 +175,43 @@ pub data Spells : ℕ → List ℕ → List Instr → Type 0 where
       → Spells deep (op ∷ (text ++ rest)) (i ∷ is)
   block : {deep : ℕ} (sort inner rest : List ℕ) (t : Option ValType) (body is : List Instr)
       → block_type sort t → Spells deep inner body → Spells (suc deep) rest is
-      → Spells (suc deep) (0x02 ∷ (sort ++ (inner ++ (0x0b ∷ rest)))) (Block t body ∷ is)
+      → Spells (suc deep) (block_opcode ∷ (sort ++ (inner ++ (end_byte ∷ rest)))) (Block t body ∷ is)
   loop : {deep : ℕ} (sort inner rest : List ℕ) (t : Option ValType) (body is : List Instr)
       → block_type sort t → Spells deep inner body → Spells (suc deep) rest is
-      → Spells (suc deep) (0x03 ∷ (sort ++ (inner ++ (0x0b ∷ rest)))) (Loop t body ∷ is)
+      → Spells (suc deep) (loop_opcode ∷ (sort ++ (inner ++ (end_byte ∷ rest)))) (Loop t body ∷ is)
   if_only : {deep : ℕ} (sort inner rest : List ℕ) (t : Option ValType) (body is : List Instr)
       → block_type sort t → Spells deep inner body → Spells (suc deep) rest is
-      → Spells (suc deep) (0x04 ∷ (sort ++ (inner ++ (0x0b ∷ rest)))) (If t body [] ∷ is)
+      → Spells (suc deep) (if_opcode ∷ (sort ++ (inner ++ (end_byte ∷ rest)))) (If t body [] ∷ is)
   if_else : {deep : ℕ} (sort inner other rest : List ℕ) (t : Option ValType) (body branch is : List Instr)
       → block_type sort t → Spells deep inner body → Spells deep other branch → Spells (suc deep) rest is
-      → Spells (suc deep) (0x04 ∷ (sort ++ (inner ++ (0x05 ∷ (other ++ (0x0b ∷ rest)))))) (If t body branch ∷ is)
+      → Spells (suc deep) (if_opcode ∷ (sort ++ (inner ++ (else_byte ∷ (other ++ (end_byte ∷ rest)))))) (If t body branch ∷ is)
 
 abbrev pub instructions : Grammar (List Instr)
-instructions = Spells 1024
+instructions = Spells most_nested
 
+-- 5.4.6
 abbrev pub expression : Grammar (List Instr)
 expression = do
   is ← instructions
-  behind 0x0b (gives is)
+  byte_then end_byte (gives is)
 
--- ---- parts of a module
+-- ---- parts of a module (sections 5.5.4 to 5.5.14)
 
+-- what is imported (5.5.5)
 abbrev pub import_kind : Grammar ImportKind
 import_kind = either
-    (behind 0x00 (do
+    (byte_then function_kind (do
       sort ← u32
       gives (kinds.Func sort)))
     (either
-    (behind 0x01 (do
+    (byte_then table_kind (do
       table ← table_type
       gives (kinds.Table table)))
     (either
-    (behind 0x02 (do
+    (byte_then memory_kind (do
       memory ← limits
       gives (kinds.Memory memory)))
-    (behind 0x03 (do
+    (byte_then global_kind (do
       global ← global_type
       gives (kinds.Global global)))))
 
@@ -194,17 +222,19 @@ import = do
   what ← import_kind
   gives (record { «module» = from; name = own; what = what })
 
+-- 5.5.9
 abbrev pub global : Grammar GlobalDef
 global = do
   sort ← global_type
   init ← expression
   gives (record { sort = sort; init = init })
 
+-- what is exported (5.5.10)
 abbrev pub export_kind : Grammar ExportKind
 export_kind =
-    either (behind 0x00 (gives exported.Func))
-    (either (behind 0x01 (gives exported.Table))
-    (either (behind 0x02 (gives exported.Memory)) (behind 0x03 (gives exported.Global))))
+    either (byte_then function_kind (gives exported.Func))
+    (either (byte_then table_kind (gives exported.Table))
+    (either (byte_then memory_kind (gives exported.Memory)) (byte_then global_kind (gives exported.Global))))
 
 abbrev pub export : Grammar Export
 export = do
@@ -213,14 +243,15 @@ export = do
   index ← u32
   gives (record { name = own; what = what; index = index })
 
+-- 5.5.12
 abbrev pub element : Grammar Element
 element = do
   table ← u32
   offset ← expression
-  functions ← vector 65536 u32
+  functions ← vector most_items u32
   gives (record { table = table; offset = offset; functions = functions })
 
--- locals of one type: how many, and the type
+-- locals of one type: how many, and the type (5.5.13)
 abbrev pub group : Grammar (ℕ × ValType)
 group = do
   n ← u32
@@ -233,8 +264,8 @@ each_local groups = flat_map (λ g. replicate g.0 g.1) groups
 
 abbrev pub locals : Grammar (List ValType)
 locals = do
-  groups ← vector 65536 group
-  where_ (sum_by (λ g. g.0) groups ≤ 8192) (gives (each_local groups))
+  groups ← vector most_items group
+  where_ (sum_by (λ g. g.0) groups ≤ most_locals) (gives (each_local groups))
 
 abbrev pub function_body : Grammar Code
 function_body = do
@@ -242,6 +273,7 @@ function_body = do
   body ← expression
   gives (record { locals = locals; body = body })
 
+-- 5.5.14
 abbrev pub segment : Grammar Segment
 segment = do
   memory ← u32
@@ -249,55 +281,70 @@ segment = do
   bytes ← data_bytes
   gives (record { memory = memory; offset = offset; bytes = bytes })
 
--- ---- sections and modules
+-- ---- sections (sections 5.5.2 and 5.5.3; Core 2.0, section 5.5.15, for the data count)
 
 -- how many functions are imported
-abbrev pub imported : Module → ℕ
-imported m = length (imported_functions m.imports)
+abbrev pub imported_count : Module → ℕ
+imported_count m = length (imported_functions m.imports)
 
 -- the code of each function
 abbrev pub codes : ℕ → Grammar (List Code)
 codes functions = do
   n ← u32
-  where_ (n ≡ functions) (many n (sized function_body))
+  where_ (n ≡ functions) (many n (in_contents function_body))
 
--- The contents of the section with this number add their part to the module so far. Functions are at most 65,536,
--- imported ones counted, and each has its code.
-abbrev pub section : Module → ℕ → Grammar Module
-section m id =
-    either (where_ (id ≡ 1) (do
-      ts ← vector 65536 func_type
-      gives (record m { types = ts })))
-    (either (where_ (id ≡ 2) (do
-      is ← vector 65536 import
-      gives (record m { imports = is })))
-    (either (where_ (id ≡ 3) (do
-      fs ← vector (65536 - imported m) u32
-      gives (record m { functions = fs })))
-    (either (where_ (id ≡ 4) (do
-      ts ← vector 65536 table_type
-      gives (record m { tables = ts })))
-    (either (where_ (id ≡ 5) (do
-      ms ← vector 65536 limits
-      gives (record m { memories = ms })))
-    (either (where_ (id ≡ 6) (do
-      gs ← vector 65536 global
-      gives (record m { globals = gs })))
-    (either (where_ (id ≡ 7) (do
-      es ← vector 65536 export
-      gives (record m { exports = es })))
-    (either (where_ (id ≡ 8) (do
-      f ← u32
-      gives (record m { start = Some f })))
-    (either (where_ (id ≡ 9) (do
-      es ← vector 65536 element
-      gives (record m { elements = es })))
-    (either (where_ (id ≡ 10) (do
-      cs ← codes (length m.functions)
-      gives (record m { codes = cs })))
-    (where_ (id ≡ 11) (do
-      ds ← vector 65536 segment
-      gives (record m { segments = ds }))))))))))))
+-- it is the number that a data count section told, if one stood there
+abbrev pub IsAsTold : Option ℕ → ℕ → Type 0
+IsAsTold None n = Unit {0}
+IsAsTold (Some told) n = n ≡ told
+
+-- data segments, as many as told
+abbrev pub segments : Option ℕ → Grammar (List Segment)
+segments data_count = do
+  n ← u32
+  where_ (IsAsTold data_count n) (where_ (n ≤ most_items) (many n segment))
+
+abbrev pub with_tree : Progress → Module → Progress
+with_tree p tree = record p { tree = tree }
+
+-- The contents of a section add its part. Functions are at most 65,536, imported ones counted, and each has its code.
+abbrev pub section : Progress → Section → Grammar Progress
+section p Types = do
+  types ← vector most_items func_type
+  gives (with_tree p (record p.tree { types = types }))
+section p Imports = do
+  imports ← vector most_items import
+  gives (with_tree p (record p.tree { imports = imports }))
+section p Functions = do
+  functions ← vector (most_items - imported_count p.tree) u32
+  gives (with_tree p (record p.tree { functions = functions }))
+section p Tables = do
+  tables ← vector most_items table_type
+  gives (with_tree p (record p.tree { tables = tables }))
+section p Memories = do
+  memories ← vector most_items limits
+  gives (with_tree p (record p.tree { memories = memories }))
+section p Globals = do
+  globals ← vector most_items global
+  gives (with_tree p (record p.tree { globals = globals }))
+section p Exports = do
+  exports ← vector most_items export
+  gives (with_tree p (record p.tree { exports = exports }))
+section p Start = do
+  start ← u32
+  gives (with_tree p (record p.tree { start = Some start }))
+section p Elements = do
+  elements ← vector most_items element
+  gives (with_tree p (record p.tree { elements = elements }))
+section p DataCount = do
+  n ← u32
+  gives (record p { data_count = Some n })
+section p Codes = do
+  codes ← codes (length p.tree.functions)
+  gives (with_tree p (record p.tree { codes = codes }))
+section p Segments = do
+  segments ← segments p.data_count
+  gives (with_tree p (record p.tree { segments = segments }))
 
 -- a custom section: a name, and any bytes
 abbrev pub custom : Grammar (List ℕ)
@@ -305,26 +352,33 @@ custom = do
   text ← name
   then_any text
 
--- The bytes spell the sections that follow the one with the last number, custom ones not counted, and make the module
--- so far the whole one. A section has a greater number than the last one; custom sections may stand anywhere.
-pub data IsSections : ℕ → Module → List ℕ → Module → Type 0 where
-  none : {last : ℕ} {m : Module} → IsSections last m [] m
-  left_out : {last : ℕ} {m whole : Module} (text rest any : List ℕ)
-      → sized custom text any → IsSections last m rest whole → IsSections last m (0 ∷ (text ++ rest)) whole
-  next : {last id : ℕ} {m n whole : Module} (text rest : List ℕ)
-      → last < id → sized (section m id) text n → IsSections id n rest whole
-      → IsSections last m (id ∷ (text ++ rest)) whole
+-- nothing is missing: each function has its code, and there are as many data segments as told
+abbrev pub IsComplete : Progress → Type 0
+IsComplete p = HasCodeForEach p.tree × IsAsTold p.data_count (length p.tree.segments)
 
-abbrev pub header : List ℕ
-header = 0x00 ∷ 0x61 ∷ 0x73 ∷ 0x6d ∷ 0x01 ∷ 0x00 ∷ 0x00 ∷ 0x00 ∷ []
+-- The bytes spell the sections that follow those up to the one of this rank, 0 before the first, and make the module
+-- whole. A section stands after those of lower rank; custom sections may stand anywhere, and are left out. The module
+-- has nothing of a data count section: it is there or not, and the other rules don't speak of it.
+pub data IsSections : ℕ → Progress → List ℕ → Module → Type 0 where
+  none : {last : ℕ} {p : Progress} → IsComplete p → IsSections last p [] p.tree
+  left_out : {last : ℕ} {p : Progress} {m : Module} (text rest any : List ℕ)
+      → in_contents custom text any → IsSections last p rest m → IsSections last p (custom_id ∷ (text ++ rest)) m
+  next : {last id : ℕ} {s : Section} {p q : Progress} {m : Module} (text rest : List ℕ)
+      → section_of id ≡ Some s → last < rank_of s → in_contents (section p s) text q → IsSections (rank_of s) q rest m
+      → IsSections last p (id ∷ (text ++ rest)) m
+
+-- ---- modules (section 5.5.15)
 
 -- a module without sections
-abbrev pub empty : Module
-empty = record { types = []; imports = []; functions = []; tables = []; memories = []; globals = []; exports = []; start = None; elements = []; codes = []; segments = [] }
+abbrev pub empty_module : Module
+empty_module = record { types = []; imports = []; functions = []; tables = []; memories = []; globals = []; exports = []; start = None; elements = []; codes = []; segments = [] }
+
+-- before the first section
+abbrev pub start : Progress
+start = record { tree = empty_module; data_count = None }
 
 -- the bytes spell the module
 pub record IsModule (text : List ℕ) (m : Module) : Type 0 where
   pub body : List ℕ
   pub parts : text ≡ header ++ body
-  pub sections : IsSections 0 empty body m
-  pub counts : length m.functions ≡ length m.codes
+  pub sections : IsSections 0 start body m

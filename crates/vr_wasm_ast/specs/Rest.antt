@@ -9,7 +9,7 @@ pub record Rest : Type 0 where
 abbrev pub rest : ℕ → List ℕ → Rest
 rest place bytes = record { place = place; bytes = bytes }
 
--- these bytes were taken from the front
-pub record Takes (before : Rest) (text : List ℕ) (after : Rest) : Type 0 where
+-- what was left before is these bytes and what is left after them
+pub record Consumes (before : Rest) (text : List ℕ) (after : Rest) : Type 0 where
   pub parts : before.bytes ≡ text ++ after.bytes
   pub moved : after.place ≡ before.place + length text

@@ -1,8 +1,8 @@
-//! Numbers and bytes, read from left to right.
+//! Numbers and bytes, read from left to right (WebAssembly Core 1.0, section 5.2).
 
 ghost use Rattle.std.specs.Prelude.{◌≡◌, ℕ, ◌+◌, ◌-◌, ◌*◌, ◌^◌, ◌<◌, ◌≤◌, ◌≤ℤ◌, ◌<ℤ◌, neg_ℤ, pos, List, [], ◌∷◌, ◌↔◌, length, take, drop, IfOk, OnErr, IfSome, IfNone, IsTrue, MatchResult};
-ghost use Rattle.vr_wasm_ast.specs.Rest.{Rest, rest, Takes};
-ghost use Rattle.vr_wasm_ast.specs.Numbers.{IsUnsigned, IsSigned, EndsFirst, IsBad, last_unsigned, last_signed, Reads, unsigned_from, signed_from, unsigned_at, signed_at};
+ghost use Rattle.vr_wasm_ast.specs.Rest.{Rest, rest, Consumes};
+ghost use Rattle.vr_wasm_ast.specs.Numbers.{IsUnsigned, IsSigned, EndsFirst, IsBad, last_unsigned, last_signed, ConsumesAs, ReadsNumber, unsigned_from, signed_from, unsigned_at, signed_at};
 
 use std::marker::Model;
 
@@ -34,11 +34,13 @@ impl<'a> Model for Cursor<'a> {
     ghost invariant = { λ c. c.place + length c.left.now < 2 ^ 32 };
 }
 
-/// The unsigned number of so many bits at the front, and the bytes after it.
+/// The unsigned number of so many bits that the bytes begin with, and the bytes after it.
 #[tactic(auto, unfolding(crate::specs::Numbers::number_from))]
 fn unsigned_in(bytes: &[u8], bits: u32) -> Result<(u32, &[u8]), LebFault>
     requires { bits ≤ 32 }
-    ensures gives { MatchResult result (λ x. unsigned_from bits bytes.now ≡ Ok (x.0, x.1.now)) (λ e. unsigned_from bits bytes.now ≡ Err e) }
+    ensures gives { MatchResult result
+        (λ x. unsigned_from bits bytes.now ≡ Ok (x.0, x.1.now))
+        (λ e. unsigned_from bits bytes.now ≡ Err e) }
     ensures fits { IfOk result (λ x. x.0 < 2 ^ bits) }
     ensures shorter { IfOk result (λ x. length x.1.now ≤ length bytes.now) }
 {
@@ -61,12 +63,14 @@ fn unsigned_in(bytes: &[u8], bits: u32) -> Result<(u32, &[u8]), LebFault>
     }
 }
 
-/// The signed number of so many bits at the front, and the bytes after it.
+/// The signed number of so many bits that the bytes begin with, and the bytes after it.
 #[tactic(auto, unfolding(crate::specs::Numbers::number_from))]
 fn signed_in(bytes: &[u8], bits: u32) -> Result<(i64, &[u8]), LebFault>
     requires some { 0 < bits }
     requires most { bits ≤ 64 }
-    ensures gives { MatchResult result (λ x. signed_from bits bytes.now ≡ Ok (x.0, x.1.now)) (λ e. signed_from bits bytes.now ≡ Err e) }
+    ensures gives { MatchResult result
+        (λ x. signed_from bits bytes.now ≡ Ok (x.0, x.1.now))
+        (λ e. signed_from bits bytes.now ≡ Err e) }
     ensures low { IfOk result (λ x. neg_ℤ (pos (2 ^ (bits - 1))) ≤ℤ x.0) }
     ensures high { IfOk result (λ x. x.0 <ℤ pos (2 ^ (bits - 1))) }
     ensures shorter { IfOk result (λ x. length x.1.now ≤ length bytes.now) }
@@ -141,7 +145,7 @@ impl<'a> Cursor<'a> {
     /// Takes the next byte; `None` at the stop.
     pub fn read_byte(&mut self) -> Option<u8>
         ensures none { IfNone result ((self.old.bytes ≡ []) × (self.new ≡ self.old)) }
-        ensures some { IfSome result (λ byte. Takes self.old (byte ∷ []) self.new) }
+        ensures some { IfSome result (λ byte. Consumes self.old (byte ∷ []) self.new) }
     {
         match self.left {
             [] => None,
@@ -157,27 +161,29 @@ impl<'a> Cursor<'a> {
     pub fn take(&mut self, count: u32) -> Option<Cursor<'a>>
         ensures none { IfNone result ((length self.old.bytes < count) × (self.new ≡ self.old)) }
         ensures within { IfSome result (λ _. count ≤ length self.old.bytes) }
-        ensures taken { IfSome result (λ part. part ≡ rest self.old.place (take count self.old.bytes)) }
-        ensures after { IfSome result (λ _. self.new ≡ rest (self.old.place + count) (drop count self.old.bytes)) }
+        ensures taken { IfSome result
+            (λ part. part ≡ rest self.old.place (take count self.old.bytes)) }
+        ensures left { IfSome result
+            (λ _. self.new ≡ rest (self.old.place + count) (drop count self.old.bytes)) }
     {
         let count_bytes = count as usize;
         if self.left.len() < count_bytes {
             return None;
         }
-        let (front, back) = self.left.split_at(count_bytes);
+        let (taken, left) = self.left.split_at(count_bytes);
         let part = Cursor {
-            left: front,
+            left: taken,
             place: self.place,
         };
-        self.left = back;
+        self.left = left;
         self.place += count;
         Some(part)
     }
 
-    /// Takes an unsigned number of so many bits from the front.
+    /// Takes an unsigned number of so many bits.
     fn unsigned(&mut self, bits: u32) -> Result<u32, LebFault>
         requires { bits ≤ 32 }
-        ensures exact { Reads result self.old self.new (unsigned_at bits self.old) }
+        ensures exact { ReadsNumber result self.old self.new (unsigned_at bits self.old) }
     {
         let (number, rest) = unsigned_in(self.left, bits)?;
         self.place += (self.left.len() - rest.len()) as u32;
@@ -185,11 +191,11 @@ impl<'a> Cursor<'a> {
         Ok(number)
     }
 
-    /// Takes a signed number of so many bits from the front.
+    /// Takes a signed number of so many bits.
     fn signed(&mut self, bits: u32) -> Result<i64, LebFault>
         requires some { 0 < bits }
         requires most { bits ≤ 64 }
-        ensures exact { Reads result self.old self.new (signed_at bits self.old) }
+        ensures exact { ReadsNumber result self.old self.new (signed_at bits self.old) }
         ensures low { IfOk result (λ z. neg_ℤ (pos (2 ^ (bits - 1))) ≤ℤ z) }
         ensures high { IfOk result (λ z. z <ℤ pos (2 ^ (bits - 1))) }
     {
@@ -199,39 +205,42 @@ impl<'a> Cursor<'a> {
         Ok(number)
     }
 
-    /// Takes an unsigned number of 32 bits in LEB128 from the front. After an `Err` nothing is taken.
+    /// Takes an unsigned number of 32 bits in LEB128 (WebAssembly Core 1.0, section 5.2.2). After an
+    /// `Err` nothing is taken.
     pub fn read_u32(&mut self) -> Result<u32, LebFault>
-        ensures found { IfOk result (λ n. (text : List ℕ) × IsUnsigned 32 text n × Takes self.old text self.new) }
+        ensures found { IfOk result (ConsumesAs (IsUnsigned 32) self.old self.new) }
         // It is too long, or an unused bit of it is wrong.
         ensures bad { (result ≡ Err LebFault.Bad) ↔ IsBad last_unsigned 32 self.old.bytes }
         // The bytes end first.
         ensures short { (result ≡ Err LebFault.Short) ↔ EndsFirst 32 self.old.bytes }
-        ensures exact { Reads result self.old self.new (unsigned_at 32 self.old) }
+        ensures exact { ReadsNumber result self.old self.new (unsigned_at 32 self.old) }
     {
         self.unsigned(32)
     }
 
-    /// Takes a signed number of 32 bits in LEB128 from the front. After an `Err` nothing is taken.
+    /// Takes a signed number of 32 bits in LEB128 (WebAssembly Core 1.0, section 5.2.2). After an
+    /// `Err` nothing is taken.
     pub fn read_s32(&mut self) -> Result<i32, LebFault>
-        ensures found { IfOk result (λ n. (text : List ℕ) × IsSigned 32 text n × Takes self.old text self.new) }
+        ensures found { IfOk result (ConsumesAs (IsSigned 32) self.old self.new) }
         // It is too long, or an unused bit of it is wrong.
         ensures bad { (result ≡ Err LebFault.Bad) ↔ IsBad last_signed 32 self.old.bytes }
         // The bytes end first.
         ensures short { (result ≡ Err LebFault.Short) ↔ EndsFirst 32 self.old.bytes }
-        ensures exact { Reads result self.old self.new (signed_at 32 self.old) }
+        ensures exact { ReadsNumber result self.old self.new (signed_at 32 self.old) }
     {
         let number = self.signed(32)?;
         Ok(number as i32)
     }
 
-    /// Takes a signed number of 64 bits in LEB128 from the front. After an `Err` nothing is taken.
+    /// Takes a signed number of 64 bits in LEB128 (WebAssembly Core 1.0, section 5.2.2). After an
+    /// `Err` nothing is taken.
     pub fn read_s64(&mut self) -> Result<i64, LebFault>
-        ensures found { IfOk result (λ n. (text : List ℕ) × IsSigned 64 text n × Takes self.old text self.new) }
+        ensures found { IfOk result (ConsumesAs (IsSigned 64) self.old self.new) }
         // It is too long, or an unused bit of it is wrong.
         ensures bad { (result ≡ Err LebFault.Bad) ↔ IsBad last_signed 64 self.old.bytes }
         // The bytes end first.
         ensures short { (result ≡ Err LebFault.Short) ↔ EndsFirst 64 self.old.bytes }
-        ensures exact { Reads result self.old self.new (signed_at 64 self.old) }
+        ensures exact { ReadsNumber result self.old self.new (signed_at 64 self.old) }
     {
         self.signed(64)
     }

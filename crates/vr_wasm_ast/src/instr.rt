@@ -1,7 +1,8 @@
 use crate::tree::ValType;
 use sqlite_items::Items;
 
-/// An instruction (WebAssembly Core 1.0, section 2.4), without floating point.
+/// An instruction (WebAssembly Core 1.0, section 2.4), without floating point, and with the copy and the fill of a
+/// memory and the sign extensions of Core 2.0.
 #[derive(Debug, Drop)]
 pub enum Instr {
     Unreachable,
@@ -28,14 +29,18 @@ pub enum Instr {
     LocalTee(u32),
     GlobalGet(u32),
     GlobalSet(u32),
-    /// The opcode, the exponent of the alignment and the offset.
+    /// The opcode, the exponent of the alignment and the offset: see [`load_access`](crate::load_access).
     Load(u8, u32, u32),
-    /// The opcode, the exponent of the alignment and the offset.
+    /// The opcode, the exponent of the alignment and the offset: see [`store_access`](crate::store_access).
     Store(u8, u32, u32),
     MemorySize,
     MemoryGrow,
+    /// Copies a range of the memory to another place in it.
+    MemoryCopy,
+    /// Fills a range of the memory with one byte.
+    MemoryFill,
     I32Const(i32),
     I64Const(i64),
-    /// The opcode of a test, a comparison, an operation or a conversion of integers.
+    /// The opcode of an instruction on integers: see [`numeric_family`](crate::numeric_family).
     Numeric(u8),
 }

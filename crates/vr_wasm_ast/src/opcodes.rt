@@ -1,93 +1,101 @@
 //! The opcodes that stand for a family of instructions alike: loads, stores, and the instructions on integers
-//! (WebAssembly Core 1.0, sections 5.4.4 and 5.4.5, without floating point).
+//! (WebAssembly Core 1.0, sections 5.4.4 and 5.4.5, without floating point; Core 2.0, section 5.4.7, for those that
+//! extend a sign).
 
 ghost use Rattle.std.specs.Prelude.{◌≡◌};
-ghost use Rattle.vr_wasm_ast.specs.Opcodes.{load_of, store_of, numeric_of, moves, takes};
+ghost use Rattle.vr_wasm_ast.specs.Opcodes.{access_of, load_of, store_of, numeric_of};
 
 use crate::tree::ValType;
 
-/// What a load or a store moves.
+/// What a load or a store moves between the memory and an operand.
 #[derive(Clone, Copy, Debug, PartialEq, Eq)]
 pub struct MemoryAccess {
     /// The type of the value that a load gives and a store takes.
     pub value: ValType,
     /// The exponent of its natural alignment: 2 to this power bytes are read or written.
     pub exponent: u32,
+    /// Whether a load fills the bits of its value above those that it reads with copies of the highest one, and else
+    /// with zeros. False for a store, and for a load of all bits.
+    pub signed: bool,
 }
 
-/// What an instruction on integers takes and gives.
+/// A family of instructions on integers (WebAssembly Core 1.0, section 2.4.1).
 #[derive(Clone, Copy, Debug, PartialEq, Eq)]
-pub struct NumericType {
-    /// Whether it takes two operands, and else one.
-    pub binary: bool,
-    /// The type of each operand.
-    pub operand: ValType,
-    pub result: ValType,
+pub enum NumericFamily {
+    /// Takes one operand of this type, and gives a result of it.
+    Unary(ValType),
+    /// Takes two operands of this type, and gives a result of it.
+    Binary(ValType),
+    /// Takes one operand of this type, and gives an i32, 1 for yes and 0 for no.
+    Test(ValType),
+    /// Takes two operands of this type, and gives an i32, 1 for yes and 0 for no.
+    Comparison(ValType),
+    /// Takes one operand of the first type, and gives a result of the second.
+    Conversion(ValType, ValType),
 }
 
-fn moving(value: ValType, exponent: u32) -> Option<MemoryAccess>
-    ensures { result ≡ moves value exponent }
+fn access(value: ValType, exponent: u32, signed: bool) -> Option<MemoryAccess>
+    ensures { result ≡ access_of value exponent signed }
 {
-    Some(MemoryAccess { value, exponent })
-}
-
-fn taking(binary: bool, operand: ValType, given: ValType) -> Option<NumericType>
-    ensures { result ≡ takes binary operand given }
-{
-    Some(NumericType {
-        binary,
-        operand,
-        result: given,
+    Some(MemoryAccess {
+        value,
+        exponent,
+        signed,
     })
 }
 
-/// What the load of this opcode moves, or `None` where it is no load's.
+/// What the load of this opcode moves; `None` where no load has it.
 pub fn load_access(op: u8) -> Option<MemoryAccess>
     ensures { result ≡ load_of op }
 {
     match op {
-        0x28 => moving(ValType::I32, 2),
-        0x29 => moving(ValType::I64, 3),
-        0x2c..=0x2d => moving(ValType::I32, 0),
-        0x2e..=0x2f => moving(ValType::I32, 1),
-        0x30..=0x31 => moving(ValType::I64, 0),
-        0x32..=0x33 => moving(ValType::I64, 1),
-        0x34..=0x35 => moving(ValType::I64, 2),
+        0x28 => access(ValType::I32, 2, false),
+        0x29 => access(ValType::I64, 3, false),
+        0x2c => access(ValType::I32, 0, true),
+        0x2d => access(ValType::I32, 0, false),
+        0x2e => access(ValType::I32, 1, true),
+        0x2f => access(ValType::I32, 1, false),
+        0x30 => access(ValType::I64, 0, true),
+        0x31 => access(ValType::I64, 0, false),
+        0x32 => access(ValType::I64, 1, true),
+        0x33 => access(ValType::I64, 1, false),
+        0x34 => access(ValType::I64, 2, true),
+        0x35 => access(ValType::I64, 2, false),
         _ => None,
     }
 }
 
-/// What the store of this opcode moves, or `None` where it is no store's.
+/// What the store of this opcode moves; `None` where no store has it.
 pub fn store_access(op: u8) -> Option<MemoryAccess>
     ensures { result ≡ store_of op }
 {
     match op {
-        0x36 => moving(ValType::I32, 2),
-        0x37 => moving(ValType::I64, 3),
-        0x3a => moving(ValType::I32, 0),
-        0x3b => moving(ValType::I32, 1),
-        0x3c => moving(ValType::I64, 0),
-        0x3d => moving(ValType::I64, 1),
-        0x3e => moving(ValType::I64, 2),
+        0x36 => access(ValType::I32, 2, false),
+        0x37 => access(ValType::I64, 3, false),
+        0x3a => access(ValType::I32, 0, false),
+        0x3b => access(ValType::I32, 1, false),
+        0x3c => access(ValType::I64, 0, false),
+        0x3d => access(ValType::I64, 1, false),
+        0x3e => access(ValType::I64, 2, false),
         _ => None,
     }
 }
 
-/// What the instruction on integers of this opcode takes and gives, or `None` where it is no such instruction's.
-pub fn numeric_type(op: u8) -> Option<NumericType>
+/// The family of the instruction on integers of this opcode; `None` where no such instruction has it.
+pub fn numeric_family(op: u8) -> Option<NumericFamily>
     ensures { result ≡ numeric_of op }
 {
     match op {
-        0x45 => taking(false, ValType::I32, ValType::I32),
-        0x46..=0x4f => taking(true, ValType::I32, ValType::I32),
-        0x50 => taking(false, ValType::I64, ValType::I32),
-        0x51..=0x5a => taking(true, ValType::I64, ValType::I32),
-        0x67..=0x69 => taking(false, ValType::I32, ValType::I32),
-        0x6a..=0x78 => taking(true, ValType::I32, ValType::I32),
-        0x79..=0x7b => taking(false, ValType::I64, ValType::I64),
-        0x7c..=0x8a => taking(true, ValType::I64, ValType::I64),
-        0xa7 => taking(false, ValType::I64, ValType::I32),
-        0xac..=0xad => taking(false, ValType::I32, ValType::I64),
+        0x45 => Some(NumericFamily::Test(ValType::I32)),
+        0x46..=0x4f => Some(NumericFamily::Comparison(ValType::I32)),
+        0x50 => Some(NumericFamily::Test(ValType::I64)),
+        0x51..=0x5a => Some(NumericFamily::Comparison(ValType::I64)),
+        0x67..=0x69 | 0xc0..=0xc1 => Some(NumericFamily::Unary(ValType::I32)),
+        0x6a..=0x78 => Some(NumericFamily::Binary(ValType::I32)),
+        0x79..=0x7b | 0xc2..=0xc4 => Some(NumericFamily::Unary(ValType::I64)),
+        0x7c..=0x8a => Some(NumericFamily::Binary(ValType::I64)),
+        0xa7 => Some(NumericFamily::Conversion(ValType::I64, ValType::I32)),
+        0xac..=0xad => Some(NumericFamily::Conversion(ValType::I32, ValType::I64)),
         _ => None,
     }
 }

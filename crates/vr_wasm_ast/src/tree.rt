@@ -1,3 +1,7 @@
+//! The parts of a module (WebAssembly Core 1.0, sections 2.3 and 2.5).
+
+ghost use Rattle.std.specs.Prelude.{◌≡◌, ◌↔◌, IsTrue};
+
 use crate::instr::Instr;
 use sqlite_items::Items;
 
@@ -13,6 +17,22 @@ pub enum ValType {
 pub struct FuncType {
     pub params: Items<ValType>,
     pub results: Items<ValType>,
+}
+
+fn are_same(types: &[ValType], others: &[ValType]) -> bool
+    ensures { IsTrue result ↔ (types.now ≡ others.now) }
+{
+    types == others
+}
+
+impl FuncType {
+    /// Whether the two are one type, as an indirect call asks (WebAssembly Core 1.0, section 4.4.5).
+    pub fn equals(&self, other: &FuncType) -> bool
+        ensures { IsTrue result ↔ (self.now ≡ other.now) }
+    {
+        are_same(self.params.as_slice(), other.params.as_slice())
+            && are_same(self.results.as_slice(), other.results.as_slice())
+    }
 }
 
 /// How large a table (in elements) or a memory (in pages) is at first, and at most.

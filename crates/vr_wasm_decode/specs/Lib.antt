@@ -1,2 +1,5 @@
+pub mod Faults
+pub mod Instructions
+pub mod Modules
 pub mod Reader
-pub mod Reading
+pub mod Types

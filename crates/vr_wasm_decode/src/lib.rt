@@ -11,8 +11,5 @@ mod sections;
 mod types;
 mod vectors;
 
-pub use decoding::{decode, one_module};
+pub use decoding::decode;
 pub use fault::{DecodeFault, DecodeKind};
-
-#[cfg(test)]
-mod tests;

@@ -1,8 +1,8 @@
-//! Bytes, numbers and contents of a stated size.
+//! Bytes, numbers and contents of a stated size (WebAssembly Core 1.0, section 5.2).
 
-ghost use Rattle.std.specs.Prelude.{◌≡◌, ◌↔◌, IsTrue};
-ghost use Rattle.vr_wasm_ast.specs.Numbers.{Reads};
-ghost use Rattle.vr_wasm_decode.specs.Reader.{Reader, fault as fault_at, Gives, GivesAll, byte as byte_at, expect as expect_at, number, u32_or as u32_or_at, u32 as u32_at, s32 as s32_at, s64 as s64_at, count as count_at, contents as contents_at, ended as ended_at};
+ghost use Rattle.std.specs.Prelude.{◌≡◌};
+ghost use Rattle.vr_wasm_decode.specs.Faults.{fault_at};
+ghost use Rattle.vr_wasm_decode.specs.Reader.{Gives, GivesAll, byte_at, expect_at, u32_or_at, u32_at, s32_at, s64_at, count_at, contents_at, ended_at};
 
 use crate::fault::{DecodeFault, DecodeKind, ReadError};
 use vr_wasm_ast::{Cursor, LebFault};
@@ -101,7 +101,7 @@ pub fn count(cursor: &mut Cursor<'_>, limit: u32) -> Result<u32, ReadError>
 }
 
 /// A size and so many bytes, as a cursor over them; the kind of fault where the size or the bytes pass the end.
-#[tactic(auto, unfolding(crate::specs::Reader::contents))]
+#[tactic(auto, unfolding(crate::specs::Reader::contents_at))]
 pub fn contents<'a>(cursor: &mut Cursor<'a>, short: DecodeKind) -> Result<Cursor<'a>, ReadError>
     ensures { Gives result cursor.new (contents_at short cursor.old) }
 {

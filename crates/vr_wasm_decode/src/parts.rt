@@ -1,38 +1,45 @@
-//! The parts of a module: imports, globals, exports, segments and the bodies of functions.
+//! The parts of a module: imports, globals, exports, segments and the bodies of functions (WebAssembly Core 1.0,
+//! sections 5.5.5 to 5.5.14).
 
-ghost use Rattle.std.specs.Prelude.{◌≡◌, ◌+◌, ◌++◌, ◌≤◌, length, replicate, OnOk};
-ghost use Rattle.vr_wasm_decode.specs.Reader.{Gives, sized as sized_at, whole as whole_at, GivesAll};
+ghost use Rattle.std.specs.Prelude.{◌≡◌, ◌+◌, ◌++◌, length, replicate, OnOk, vec_len, ◌≤◌};
+ghost use Rattle.vr_wasm_decode.specs.Reader.{Gives, sized_at};
 ghost use Rattle.vr_wasm_decode.specs.declared.fault.DecodeKind.TheVariants.{SectionSize};
-ghost use Rattle.vr_wasm_decode.specs.Reading.{import_kind as import_kind_at, import as import_at, global as global_at, export_kind as export_kind_at, export as export_at, element as element_at, groups as groups_at, locals as locals_at, function_body as function_body_at, segment as segment_at};
+ghost use Rattle.vr_wasm_decode.specs.Modules.{import_kind_at, import_at, global_at, export_kind_at, export_at, element_at, groups_at, locals_at, function_body_at, segment_at};
 
 use crate::fault::{DecodeKind, ReadError};
 use crate::instructions::expression;
 use crate::numbers::{byte, contents, count, ended, fault, u32};
 use crate::types::{data_bytes, global_type, limits, name, table_type, val_type};
-use crate::vectors::{Index, Part, vector};
+use crate::vectors::{Index, MOST_ITEMS, Part, list};
 use std::alloc::{AllocError, Global};
 use vr_wasm_ast::{
     Code, Cursor, Element, Export, ExportKind, GlobalDef, Import, ImportKind, Items, Segment,
     ValType,
 };
 
-/// How many items a vector may have where no other limit is said.
-pub const MOST_ITEMS: u32 = 65_536;
-
 /// How many locals a function may declare.
 const MOST_LOCALS: u64 = 8_192;
 
+/// What is imported or exported.
+const FUNCTION: u8 = 0x00;
+
+const TABLE: u8 = 0x01;
+
+const MEMORY: u8 = 0x02;
+
+const GLOBAL: u8 = 0x03;
+
 /// What is imported.
-#[tactic(auto, unfolding(crate::specs::Reading::import_kind))]
+#[tactic(auto, unfolding(crate::specs::Modules::import_kind_at))]
 fn import_kind(cursor: &mut Cursor<'_>) -> Result<ImportKind, ReadError>
     ensures { Gives result cursor.new (import_kind_at cursor.old) }
 {
     let at = cursor.place();
     match byte(cursor)? {
-        0x00 => Ok(ImportKind::Func(u32(cursor)?)),
-        0x01 => Ok(ImportKind::Table(table_type(cursor)?)),
-        0x02 => Ok(ImportKind::Memory(limits(cursor)?)),
-        0x03 => Ok(ImportKind::Global(global_type(cursor)?)),
+        FUNCTION => Ok(ImportKind::Func(u32(cursor)?)),
+        TABLE => Ok(ImportKind::Table(table_type(cursor)?)),
+        MEMORY => Ok(ImportKind::Memory(limits(cursor)?)),
+        GLOBAL => Ok(ImportKind::Global(global_type(cursor)?)),
         _ => Err(fault(DecodeKind::BadByte, at)),
     }
 }
@@ -42,7 +49,7 @@ impl Part for Import {
 
     ghost reading = { import_at };
 
-    #[tactic(auto, unfolding(crate::specs::Reading::import))]
+    #[tactic(auto, unfolding(crate::specs::Modules::import_at))]
     fn read(alloc: Global, cursor: &mut Cursor<'_>) -> Result<Import, ReadError> {
         let module = name(alloc, cursor)?;
         let name = name(alloc, cursor)?;
@@ -56,7 +63,7 @@ impl Part for GlobalDef {
 
     ghost reading = { global_at };
 
-    #[tactic(auto, unfolding(crate::specs::Reading::global))]
+    #[tactic(auto, unfolding(crate::specs::Modules::global_at))]
     fn read(alloc: Global, cursor: &mut Cursor<'_>) -> Result<GlobalDef, ReadError> {
         let sort = global_type(cursor)?;
         let init = expression(alloc, cursor)?;
@@ -65,16 +72,16 @@ impl Part for GlobalDef {
 }
 
 /// What is exported.
-#[tactic(auto, unfolding(crate::specs::Reading::export_kind))]
+#[tactic(auto, unfolding(crate::specs::Modules::export_kind_at))]
 fn export_kind(cursor: &mut Cursor<'_>) -> Result<ExportKind, ReadError>
     ensures { Gives result cursor.new (export_kind_at cursor.old) }
 {
     let at = cursor.place();
     match byte(cursor)? {
-        0x00 => Ok(ExportKind::Func),
-        0x01 => Ok(ExportKind::Table),
-        0x02 => Ok(ExportKind::Memory),
-        0x03 => Ok(ExportKind::Global),
+        FUNCTION => Ok(ExportKind::Func),
+        TABLE => Ok(ExportKind::Table),
+        MEMORY => Ok(ExportKind::Memory),
+        GLOBAL => Ok(ExportKind::Global),
         _ => Err(fault(DecodeKind::BadByte, at)),
     }
 }
@@ -84,7 +91,7 @@ impl Part for Export {
 
     ghost reading = { export_at };
 
-    #[tactic(auto, unfolding(crate::specs::Reading::export))]
+    #[tactic(auto, unfolding(crate::specs::Modules::export_at))]
     fn read(alloc: Global, cursor: &mut Cursor<'_>) -> Result<Export, ReadError> {
         let name = name(alloc, cursor)?;
         let what = export_kind(cursor)?;
@@ -98,11 +105,11 @@ impl Part for Element {
 
     ghost reading = { element_at };
 
-    #[tactic(auto, unfolding(crate::specs::Reading::element))]
+    #[tactic(auto, unfolding(crate::specs::Modules::element_at))]
     fn read(alloc: Global, cursor: &mut Cursor<'_>) -> Result<Element, ReadError> {
         let table = u32(cursor)?;
         let offset = expression(alloc, cursor)?;
-        let functions = vector::<Index>(alloc, cursor, MOST_ITEMS)?;
+        let functions = list::<Index>(alloc, cursor)?;
         Ok(Element {
             table,
             offset,
@@ -116,7 +123,7 @@ impl Part for Segment {
 
     ghost reading = { segment_at };
 
-    #[tactic(auto, unfolding(crate::specs::Reading::segment))]
+    #[tactic(auto, unfolding(crate::specs::Modules::segment_at))]
     fn read(alloc: Global, cursor: &mut Cursor<'_>) -> Result<Segment, ReadError> {
         let memory = u32(cursor)?;
         let offset = expression(alloc, cursor)?;
@@ -130,20 +137,18 @@ impl Part for Segment {
 }
 
 /// Puts so many locals of one type at the end.
-fn push_locals(locals: &mut Items<ValType>, more: u32, sort: ValType) -> Result<(), AllocError>
-    ensures { OnOk result (locals.new ≡ locals.old ++ replicate more sort) }
+fn add_locals(locals: &mut Vec<ValType>, more: u32, sort: ValType) -> Result<(), AllocError>
+    requires { vec_len locals.old + more ≤ 8192 }
+    ensures { OnOk result (locals.new.items ≡ locals.old.items ++ replicate more sort) }
 {
-    for _ in 0..more {
-        locals.push(sort)?;
-    }
-    Ok(())
+    locals.resize(locals.len() + more as usize, sort)
 }
 
 /// The locals of so many groups: how many, and of which type.
 fn groups(alloc: Global, cursor: &mut Cursor<'_>, count: u32) -> Result<Items<ValType>, ReadError>
     ensures { Gives result cursor.new (groups_at count 0 cursor.old) }
 {
-    let mut locals = Items::new(alloc);
+    let mut locals = Vec::new(alloc);
     for _ in 0..count {
         let at = cursor.place();
         let more = u32(cursor)?;
@@ -151,13 +156,13 @@ fn groups(alloc: Global, cursor: &mut Cursor<'_>, count: u32) -> Result<Items<Va
             return Err(fault(DecodeKind::TooMany, at));
         }
         let sort = val_type(cursor)?;
-        push_locals(&mut locals, more, sort)?;
+        add_locals(&mut locals, more, sort)?;
     }
-    Ok(locals)
+    Ok(Items::from_vec(locals))
 }
 
 /// The locals that a function declares.
-#[tactic(auto, unfolding(crate::specs::Reading::locals))]
+#[tactic(auto, unfolding(crate::specs::Modules::locals_at))]
 fn locals(alloc: Global, cursor: &mut Cursor<'_>) -> Result<Items<ValType>, ReadError>
     ensures { Gives result cursor.new (locals_at cursor.old) }
 {
@@ -166,7 +171,7 @@ fn locals(alloc: Global, cursor: &mut Cursor<'_>) -> Result<Items<ValType>, Read
 }
 
 /// The body of a function.
-#[tactic(auto, unfolding(crate::specs::Reading::function_body))]
+#[tactic(auto, unfolding(crate::specs::Modules::function_body_at))]
 fn function_body(alloc: Global, cursor: &mut Cursor<'_>) -> Result<Code, ReadError>
     ensures { Gives result cursor.new (function_body_at cursor.old) }
 {

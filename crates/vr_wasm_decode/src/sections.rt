@@ -1,27 +1,28 @@
-//! Sections, and the module that they make.
+//! Sections, and the module that they make (WebAssembly Core 1.0, section 5.5).
 
 ghost use Rattle.std.specs.Prelude.{◌≡◌, ◌-◌, ◌≤◌, ◌<◌, ◌^◌, ℕ, length};
-ghost use Rattle.vr_wasm_ast.specs.Modules.{empty as empty_module, imported as imported_of};
+ghost use Rattle.vr_wasm_ast.specs.Checks.{value_of};
 ghost use Rattle.vr_wasm_ast.specs.Imports.{function_of};
-ghost use Rattle.vr_wasm_decode.specs.Reader.{Gives, GivesAll, GivesBytes};
-ghost use Rattle.vr_wasm_decode.specs.Reading.{codes as codes_at, section as section_at, custom as custom_at, finished as finished_at, any_section as any_section_at, sections as sections_at, reading};
+ghost use Rattle.vr_wasm_ast.specs.Modules.{empty_module, imported_count, start};
+ghost use Rattle.vr_wasm_decode.specs.declared.fault.DecodeKind.TheVariants.{Truncated};
+ghost use Rattle.vr_wasm_decode.specs.Reader.{Gives, GivesAll, sized_at};
+ghost use Rattle.vr_wasm_decode.specs.Modules.{is_count_told, codes_at, segments_at, section_at, custom_at, finished_at, any_section_at, sections_at, module_of};
 
 use crate::fault::{DecodeKind, ReadError};
 use crate::numbers::{contents, ended, fault, u32};
-use crate::parts::MOST_ITEMS;
 use crate::types::{Table, text};
-use crate::vectors::{Index, items, vector};
+use crate::vectors::{Index, MOST_ITEMS, items, list, vector};
 use std::alloc::Global;
 use vr_wasm_ast::{
     Code, Cursor, Element, Export, FuncType, GlobalDef, Import, ImportKind, Items, Limits, Module,
-    Segment,
+    Progress, Section, Segment,
 };
 
-/// The number of custom sections.
-const CUSTOM: u8 = 0;
+/// The first bytes of each module: the magic number, and the version.
+const HEADER: [u8; 8] = [0x00, 0x61, 0x73, 0x6d, 0x01, 0x00, 0x00, 0x00];
 
-/// The number of the last section.
-const LAST_SECTION: u8 = 11;
+/// The id of custom sections.
+const CUSTOM: u8 = 0;
 
 /// A module without sections.
 fn empty(alloc: Global) -> Module
@@ -42,6 +43,16 @@ fn empty(alloc: Global) -> Module
     }
 }
 
+/// Before the first section.
+fn begin(alloc: Global) -> Progress
+    ensures { result ≡ start }
+{
+    Progress {
+        tree: empty(alloc),
+        data_count: None,
+    }
+}
+
 /// The index of the type of an imported function.
 fn imported_function(import: &Import) -> Option<u32>
     ensures { result ≡ function_of import.now.what }
@@ -53,22 +64,22 @@ fn imported_function(import: &Import) -> Option<u32>
 }
 
 /// How many functions a module imports.
-fn imported(so_far: &Module) -> usize
-    ensures { result ≡ imported_of so_far.now }
+fn imported(tree: &Module) -> usize
+    ensures { result ≡ imported_count tree.now }
 {
-    let imports = so_far.imports.as_slice();
+    let imports = tree.imports.as_slice();
     imports.iter().filter_map(imported_function).count()
 }
 
 /// How many functions of its own a module with these imports may have.
-fn most_functions(so_far: &Module) -> u32
-    ensures { result ≡ 65536 - imported_of so_far.now }
+fn most_functions(tree: &Module) -> u32
+    ensures { result ≡ 65536 - imported_count tree.now }
 {
-    (MOST_ITEMS as usize).saturating_sub(imported(so_far)) as u32
+    (MOST_ITEMS as usize).saturating_sub(imported(tree)) as u32
 }
 
 /// The code of each function, as many as there are functions.
-#[tactic(auto, unfolding(crate::specs::Reading::codes))]
+#[tactic(auto, unfolding(crate::specs::Modules::codes_at))]
 fn codes(alloc: Global, cursor: &mut Cursor<'_>, functions: usize) -> Result<Items<Code>, ReadError>
     ensures { Gives result cursor.new (codes_at functions cursor.old) }
 {
@@ -80,108 +91,148 @@ fn codes(alloc: Global, cursor: &mut Cursor<'_>, functions: usize) -> Result<Ite
     items::<Code>(alloc, cursor, count)
 }
 
-/// Adds the contents of the section with this number to the module so far.
-#[tactic(auto, unfolding(crate::specs::Reading::section))]
-fn section(
-    alloc: Global,
-    cursor: &mut Cursor<'_>,
-    id: u8,
-    so_far: Module,
-) -> Result<Module, ReadError>
-    ensures { Gives result cursor.new (section_at id so_far cursor.old) }
+/// Whether so many data segments are as many as a data count section told, if one stood there.
+fn is_as_told(data_count: Option<u32>, segments: usize) -> bool
+    ensures { result ≡ is_count_told data_count segments }
 {
-    match id {
-        1 => Ok(Module {
-            types: vector::<FuncType>(alloc, cursor, MOST_ITEMS)?,
-            ..so_far
-        }),
-        2 => Ok(Module {
-            imports: vector::<Import>(alloc, cursor, MOST_ITEMS)?,
-            ..so_far
-        }),
-        3 => Ok(Module {
-            functions: vector::<Index>(alloc, cursor, most_functions(&so_far))?,
-            ..so_far
-        }),
-        4 => Ok(Module {
-            tables: vector::<Table>(alloc, cursor, MOST_ITEMS)?,
-            ..so_far
-        }),
-        5 => Ok(Module {
-            memories: vector::<Limits>(alloc, cursor, MOST_ITEMS)?,
-            ..so_far
-        }),
-        6 => Ok(Module {
-            globals: vector::<GlobalDef>(alloc, cursor, MOST_ITEMS)?,
-            ..so_far
-        }),
-        7 => Ok(Module {
-            exports: vector::<Export>(alloc, cursor, MOST_ITEMS)?,
-            ..so_far
-        }),
-        8 => Ok(Module {
-            start: Some(u32(cursor)?),
-            ..so_far
-        }),
-        9 => Ok(Module {
-            elements: vector::<Element>(alloc, cursor, MOST_ITEMS)?,
-            ..so_far
-        }),
-        10 => Ok(Module {
-            codes: codes(alloc, cursor, so_far.functions.len())?,
-            ..so_far
-        }),
-        _ => Ok(Module {
-            segments: vector::<Segment>(alloc, cursor, MOST_ITEMS)?,
-            ..so_far
-        }),
+    match data_count {
+        None => true,
+        Some(told) => segments == told as usize,
     }
 }
 
-/// Passes over a custom section behind its number, and answers its name.
-#[tactic(auto, unfolding(crate::specs::Reading::custom))]
+/// The data segments, as many as were told.
+#[tactic(auto, unfolding(crate::specs::Modules::segments_at))]
+fn segments(
+    alloc: Global,
+    cursor: &mut Cursor<'_>,
+    data_count: Option<u32>,
+) -> Result<Items<Segment>, ReadError>
+    ensures { Gives result cursor.new (segments_at data_count cursor.old) }
+{
+    let at = cursor.place();
+    let count = u32(cursor)?;
+    if !is_as_told(data_count, count as usize) {
+        return Err(fault(DecodeKind::Counts, at));
+    }
+    if count > MOST_ITEMS {
+        return Err(fault(DecodeKind::TooMany, at));
+    }
+    items::<Segment>(alloc, cursor, count)
+}
+
+/// What the sections have made, with another part of the module.
+macro_rules! with_part {
+    ($tree:ident, $data_count:ident, $part:ident: $read:expr) => {
+        Ok(Progress {
+            tree: Module {
+                $part: $read,
+                ..$tree
+            },
+            data_count: $data_count,
+        })
+    };
+}
+
+/// Adds the contents of a section.
+#[tactic(auto, unfolding(crate::specs::Modules::section_at))]
+fn section(
+    alloc: Global,
+    cursor: &mut Cursor<'_>,
+    which: Section,
+    so_far: Progress,
+) -> Result<Progress, ReadError>
+    ensures { Gives result cursor.new (section_at which so_far cursor.old) }
+{
+    let Progress { tree, data_count } = so_far;
+    match which {
+        Section::Types => with_part!(tree, data_count, types: list::<FuncType>(alloc, cursor)?),
+        Section::Imports => with_part!(tree, data_count, imports: list::<Import>(alloc, cursor)?),
+        Section::Functions => {
+            let most = most_functions(&tree);
+            with_part!(tree, data_count, functions: vector::<Index>(alloc, cursor, most)?)
+        }
+        Section::Tables => with_part!(tree, data_count, tables: list::<Table>(alloc, cursor)?),
+        Section::Memories => with_part!(tree, data_count, memories: list::<Limits>(alloc, cursor)?),
+        Section::Globals =>
+            with_part!(tree, data_count, globals: list::<GlobalDef>(alloc, cursor)?),
+        Section::Exports => with_part!(tree, data_count, exports: list::<Export>(alloc, cursor)?),
+        Section::Start => with_part!(tree, data_count, start: Some(u32(cursor)?)),
+        Section::Elements =>
+            with_part!(tree, data_count, elements: list::<Element>(alloc, cursor)?),
+        Section::DataCount => Ok(Progress {
+            tree,
+            data_count: Some(u32(cursor)?),
+        }),
+        Section::Codes => {
+            let functions = tree.functions.len();
+            with_part!(tree, data_count, codes: codes(alloc, cursor, functions)?)
+        }
+        Section::Segments => {
+            with_part!(tree, data_count, segments: segments(alloc, cursor, data_count)?)
+        }
+    }
+}
+
+/// Adds a section after its id: a size, and the contents.
+fn sized_section(
+    alloc: Global,
+    cursor: &mut Cursor<'_>,
+    which: Section,
+    so_far: Progress,
+) -> Result<Progress, ReadError>
+    ensures { Gives result cursor.new (sized_at Truncated (section_at which so_far) cursor.old) }
+{
+    let mut inner = contents(cursor, DecodeKind::Truncated)?;
+    let next = section(alloc, &mut inner, which, so_far)?;
+    ended(next, &inner)
+}
+
+/// Passes over a custom section after its id, and answers its name.
+#[tactic(auto, unfolding(crate::specs::Modules::custom_at))]
 fn custom<'a>(cursor: &mut Cursor<'a>) -> Result<&'a [u8], ReadError>
-    ensures { GivesBytes result cursor.new (custom_at cursor.old) }
+    ensures { Gives (value_of result) cursor.new (custom_at cursor.old) }
 {
     let mut inner = contents(cursor, DecodeKind::Truncated)?;
     text(&mut inner)
 }
 
-/// A section behind its number, which was at this offset: the number of the last section that is no custom one then,
-/// and the module so far.
-#[tactic(auto, unfolding(crate::specs::Reading::any_section))]
+/// A section after its id, which was at this offset: the rank of the last section that is no custom one then, and what
+/// the sections have made.
+#[tactic(auto, unfolding(crate::specs::Modules::any_section_at, crate::specs::Modules::numbered_at))]
 fn any_section(
     alloc: Global,
     cursor: &mut Cursor<'_>,
     id: u8,
     at: u32,
     last: u8,
-    so_far: Module,
-) -> Result<(u8, Module), ReadError>
+    so_far: Progress,
+) -> Result<(u8, Progress), ReadError>
     ensures { Gives result cursor.new (any_section_at id at last so_far cursor.old) }
 {
-    if id > LAST_SECTION {
-        return Err(fault(DecodeKind::BadByte, at));
-    }
     if id == CUSTOM {
         let _name = custom(cursor)?;
         return Ok((last, so_far));
     }
-    if id <= last {
+    let Some(which) = Section::from_id(id) else {
+        return Err(fault(DecodeKind::BadByte, at));
+    };
+    let rank = which.rank();
+    if rank <= last {
         return Err(fault(DecodeKind::SectionOrder, at));
     }
-    let mut inner = contents(cursor, DecodeKind::Truncated)?;
-    let next = section(alloc, &mut inner, id, so_far)?;
-    let next = ended(next, &inner)?;
-    Ok((id, next))
+    let next = sized_section(alloc, cursor, which, so_far)?;
+    Ok((rank, next))
 }
 
-/// The module at the end of its sections, at this offset: each function has its code.
-fn finished(whole: Module, at: u32) -> Result<Module, ReadError>
-    ensures { GivesAll result (finished_at whole at) }
+/// The module at the end of its sections, at this offset: each function has its code, and the data segments are as many
+/// as were told.
+fn finished(so_far: Progress, at: u32) -> Result<Module, ReadError>
+    ensures { GivesAll result (finished_at so_far at) }
 {
-    if whole.functions.len() == whole.codes.len() {
-        Ok(whole)
+    let Progress { tree, data_count } = so_far;
+    if tree.functions.len() == tree.codes.len() && is_as_told(data_count, tree.segments.len()) {
+        Ok(tree)
     } else {
         Err(fault(DecodeKind::Counts, at))
     }
@@ -189,10 +240,11 @@ fn finished(whole: Module, at: u32) -> Result<Module, ReadError>
 
 /// The module that sections make.
 fn sections(alloc: Global, cursor: &mut Cursor<'_>) -> Result<Module, ReadError>
-    ensures { (fuel : ℕ) → length cursor.old.bytes ≤ fuel → GivesAll result (sections_at fuel 0 empty_module cursor.old) }
+    ensures { (fuel : ℕ) → length cursor.old.bytes ≤ fuel
+        → GivesAll result (sections_at fuel 0 start cursor.old) }
 {
-    let mut so_far = empty(alloc);
-    let mut last = CUSTOM;
+    let mut so_far = begin(alloc);
+    let mut last = 0;
     'each: loop {
         let at = cursor.place();
         let Some(id) = cursor.read_byte() else {
@@ -204,14 +256,11 @@ fn sections(alloc: Global, cursor: &mut Cursor<'_>) -> Result<Module, ReadError>
     }
 }
 
-/// The first bytes of each module: the magic number, and the version.
-const HEADER: [u8; 8] = [0x00, 0x61, 0x73, 0x6d, 0x01, 0x00, 0x00, 0x00];
-
 /// The module that the bytes spell, or their first fault.
-#[tactic(auto, unfolding(crate::specs::Reading::reading))]
+#[tactic(auto, unfolding(crate::specs::Modules::module_of))]
 pub fn read_module(alloc: Global, bytes: &[u8]) -> Result<Module, ReadError>
     requires { length bytes.now < 2 ^ 32 }
-    ensures { GivesAll result (reading bytes.now) }
+    ensures { GivesAll result (module_of bytes.now) }
 {
     if !bytes.starts_with(&HEADER) {
         return Err(fault(DecodeKind::Magic, 0));

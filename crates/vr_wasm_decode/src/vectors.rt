@@ -1,14 +1,17 @@
-//! Vectors: a count, and so many items of one kind.
+//! Vectors: a count, and so many items of one kind (WebAssembly Core 1.0, section 5.1.3).
 
 ghost use Rattle.std.specs.Prelude.{◌≡◌, Result};
 ghost use Rattle.vr_wasm_ast.specs.Rest.{Rest};
 ghost use Rattle.vr_wasm_decode.specs.declared.fault.DecodeFault.{DecodeFault};
-ghost use Rattle.vr_wasm_decode.specs.Reader.{Gives, items as items_at, vector as vector_at, u32 as u32_at};
+ghost use Rattle.vr_wasm_decode.specs.Reader.{Gives, items_at, vector_at, u32_at};
 
 use crate::fault::ReadError;
 use crate::numbers::{count, u32};
 use std::alloc::Global;
 use vr_wasm_ast::{Cursor, Items};
+
+/// How many items a vector may have where no other limit is said.
+pub const MOST_ITEMS: u32 = 65_536;
 
 /// A kind of item, and how one is read.
 pub trait Part {
@@ -38,7 +41,7 @@ pub fn items<P: Part>(
 }
 
 /// A count, at most the limit, and so many items.
-#[tactic(auto, unfolding(crate::specs::Reader::vector))]
+#[tactic(auto, unfolding(crate::specs::Reader::vector_at))]
 pub fn vector<P: Part>(
     alloc: Global,
     cursor: &mut Cursor<'_>,
@@ -48,6 +51,13 @@ pub fn vector<P: Part>(
 {
     let count = count(cursor, limit)?;
     items::<P>(alloc, cursor, count)
+}
+
+/// A count, at most that of any vector with no other limit, and so many items.
+pub fn list<P: Part>(alloc: Global, cursor: &mut Cursor<'_>) -> Result<Items<P::Item>, ReadError>
+    ensures { Gives result cursor.new (vector_at 65536 P.reading cursor.old) }
+{
+    vector::<P>(alloc, cursor, MOST_ITEMS)
 }
 
 /// An unsigned number of 32 bits.

@@ -1,8 +1,8 @@
-pub mod Chains
-pub mod Constants
-pub mod ExportNames
-pub mod Firsts
-pub mod Judgements
-pub mod Runs
-pub mod Shapes
-pub mod Typings
+pub mod AnswerLemmas
+pub mod ConstantLemmas
+pub mod ExportLemmas
+pub mod PartLemmas
+pub mod ShapeLemmas
+pub mod StepLemmas
+pub mod TypingLemmas
+pub mod ValidLemmas

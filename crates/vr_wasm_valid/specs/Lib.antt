@@ -6,3 +6,4 @@ pub mod Scope
 pub mod Shape
 pub mod Steps
 pub mod Typing
+pub mod Valid

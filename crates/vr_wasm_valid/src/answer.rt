@@ -1,3 +1,8 @@
+//! Why a module isn't valid.
+
+ghost use Rattle.std.specs.Prelude.{◌+◌, ◌<◌, ◌^◌, IfSome};
+ghost use Rattle.vr_wasm_valid.specs.Answer.{Refuses};
+
 use std::alloc::{AllocError, AllocFailed};
 
 /// The numbers of a module's parts.
@@ -51,5 +56,20 @@ impl<T: Drop> From<AllocFailed<T>> for Invalid {
 
     fn from(_: AllocFailed<T>) -> Invalid {
         Invalid::OutOfMemory
+    }
+}
+
+/// The answer of a part whose first component has the index `first`, and in whose list the first that doesn't fit is at
+/// this place.
+pub fn refuse(part: u8, first: usize, unfit: Option<usize>) -> Result<(), Invalid>
+    requires { IfSome unfit (λ place. first + place < 2 ^ 32) }
+    ensures { Refuses part first unfit result }
+{
+    match unfit {
+        Some(place) => Err(Invalid::Part {
+            part,
+            index: (first + place) as u32,
+        }),
+        None => Ok(()),
     }
 }

@@ -1,6 +1,8 @@
+//! Constant expressions (WebAssembly Core 1.0, section 3.3.7.2).
+
 ghost use Rattle.std.specs.Prelude.{◌≡◌, ◌↔◌, IsTrue};
-ghost use Rattle.vr_wasm_ast.specs.Code.{code, body_of};
-ghost use Rattle.vr_wasm_valid.specs.Constant.{constant_type as type_of_constant, constant_global as global_constant};
+ghost use Rattle.vr_wasm_ast.specs.Instructions.{instruction_of, instructions_of};
+ghost use Rattle.vr_wasm_valid.specs.Constant.{constant_type_of, global_constant_type};
 ghost use Rattle.vr_wasm_valid.specs.Parts.{IsConstantExpression};
 
 use crate::scope::same_type;
@@ -8,7 +10,7 @@ use vr_wasm_ast::{GlobalType, Instr, ValType};
 
 /// The type of a global that is never set.
 fn constant_global(globals: &[GlobalType], global: u32) -> Option<ValType>
-    ensures { result ≡ global_constant globals.now global }
+    ensures { result ≡ global_constant_type globals.now global }
 {
     let sort = globals.get(global as usize).copied()?;
     if sort.variable {
@@ -20,7 +22,7 @@ fn constant_global(globals: &[GlobalType], global: u32) -> Option<ValType>
 
 /// The type of a constant instruction, or of a global that is never set.
 fn constant_type(globals: &[GlobalType], instr: &Instr) -> Option<ValType>
-    ensures { result ≡ type_of_constant globals.now (code instr.now) }
+    ensures { result ≡ constant_type_of globals.now (instruction_of instr.now) }
 {
     match instr {
         Instr::I32Const(_) => Some(ValType::I32),
@@ -30,10 +32,10 @@ fn constant_type(globals: &[GlobalType], instr: &Instr) -> Option<ValType>
     }
 }
 
-/// Whether the expression is one constant of the wanted type (WebAssembly Core 1.0, section 3.3.7), where it may name
-/// these globals.
+/// Whether the expression is one constant of the wanted type, where it may name these globals.
 pub fn is_constant_expression(globals: &[GlobalType], wanted: ValType, expression: &[Instr]) -> bool
-    ensures { IsTrue result ↔ IsConstantExpression globals.now wanted (body_of expression.now) }
+    ensures { IsTrue result ↔
+        IsConstantExpression globals.now wanted (instructions_of expression.now) }
 {
     let [only] = expression else {
         return false;

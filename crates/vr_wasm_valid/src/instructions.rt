@@ -1,152 +1,202 @@
-//! Instructions that name functions, locals, globals, the table or the memory, and those on integers. Each function here
-//! says whether the instruction has a typing that begins with types that the stack stands for; the stack then stands for
-//! the types that such typings end with.
+//! Instructions without others inside them. Each check says whether the instruction can follow operands that the stack
+//! allows; the stack then allows the operands that it leaves.
 
-ghost use Rattle.std.specs.Prelude.{[], IfOk};
-ghost use Rattle.vr_wasm_ast.specs.Code.{call as code_call, call_indirect as code_call_indirect, local_get as code_local_get, local_set as code_local_set, local_tee as code_local_tee, global_get as code_global_get, global_set as code_global_set, load as code_load, store as code_store, memory_size as code_memory_size, memory_grow as code_memory_grow, numeric as code_numeric};
-ghost use Rattle.vr_wasm_valid.specs.Scope.{body_context, module_context};
-ghost use Rattle.vr_wasm_valid.specs.Shape.{Moves};
-ghost use Rattle.vr_wasm_valid.specs.Steps.{Step};
+ghost use Rattle.std.specs.Prelude.{◌≡◌, [], ◌∷◌, ◌↔◌, reverse, slice_get, IsTrue, Some};
+ghost use Rattle.vr_wasm_ast.specs.Instructions.{br, br_if, br_table, call, call_indirect, global_get, global_set, load, local_get, local_set, local_tee, numeric, store};
+ghost use Rattle.vr_wasm_ast.specs.Opcodes.{numeric_operands, numeric_result};
+ghost use Rattle.vr_wasm_valid.specs.Context.{result_list};
+ghost use Rattle.vr_wasm_valid.specs.Scope.{context_in};
+ghost use Rattle.vr_wasm_valid.specs.Shape.{Checks, Moves};
+ghost use Rattle.vr_wasm_valid.specs.Steps.{Given, Step, Takes};
+ghost use Rattle.vr_wasm_valid.specs.Typing.{AllWant, HasMemory};
 
-use crate::scope::{IndexSpaces, Scope, result_type};
+use crate::scope::{Scope, result_type, same_type};
 use crate::stack::Stack;
 use std::alloc::AllocError;
-use vr_wasm_ast::{ValType, load_access, numeric_type, store_access};
+use vr_wasm_ast::{NumericFamily, ValType, load_access, numeric_family, store_access};
 
-pub fn call(spaces: &IndexSpaces, function: u32, stack: &mut Stack) -> Result<bool, AllocError>
-    ensures { IfOk result (λ fine. Moves fine stack.old stack.new (Step (module_context spaces.now) (code_call function))) }
+/// `br`: what follows can't be reached.
+pub fn check_br(scope: &Scope, label: u32, stack: &mut Stack) -> bool
+    ensures { Moves result stack.old stack.new (Step (context_in scope.now) (br label)) }
 {
-    match spaces.function(function) {
+    match scope.label(label) {
+        Some(wanted) => stack.leave(wanted),
+        None => false,
+    }
+}
+
+pub fn check_br_if(scope: &Scope, label: u32, stack: &mut Stack) -> Result<bool, AllocError>
+    ensures { Checks result stack.old stack.new (Step (context_in scope.now) (br_if label)) }
+{
+    match scope.label(label) {
+        Some(wanted) => stack.apply_under_i32(wanted.as_slice(), wanted),
+        None => Ok(false),
+    }
+}
+
+fn wants(scope: &Scope, wanted: Option<ValType>, label: u32) -> bool
+    ensures { IsTrue result ↔ (slice_get (context_in scope.now).labels label ≡ Some wanted) }
+{
+    match scope.label(label) {
+        Some(found) => same_type(found, wanted),
+        None => false,
+    }
+}
+
+/// Whether each of these labels wants the same.
+fn all_want(scope: &Scope, wanted: Option<ValType>, labels: &[u32]) -> bool
+    ensures { IsTrue result ↔ AllWant (context_in scope.now).labels wanted labels.now }
+{
+    labels.iter().all(|label| wants(scope, wanted, *label))
+}
+
+/// `br_table`: its labels want the same as its default, also where it is never reached.
+pub fn check_br_table(scope: &Scope, labels: &[u32], label: u32, stack: &mut Stack) -> bool
+    ensures { Moves result stack.old stack.new
+        (Step (context_in scope.now) (br_table labels.now label)) }
+{
+    match scope.label(label) {
+        Some(wanted) => { all_want(scope, wanted, labels) && stack.leave_under_i32(wanted) },
+        None => false,
+    }
+}
+
+pub fn check_call(scope: &Scope, function: u32, stack: &mut Stack) -> Result<bool, AllocError>
+    ensures { Checks result stack.old stack.new (Step (context_in scope.now) (call function)) }
+{
+    match scope.spaces.function_type(function) {
         Some(sort) => stack.apply(sort.params.as_slice(), result_type(sort)),
         None => Ok(false),
     }
 }
 
-pub fn call_indirect(spaces: &IndexSpaces, sort: u32, stack: &mut Stack) -> Result<bool, AllocError>
-    ensures { IfOk result (λ fine. Moves fine stack.old stack.new (Step (module_context spaces.now) (code_call_indirect sort))) }
+pub fn check_call_indirect(scope: &Scope, sort: u32, stack: &mut Stack) -> Result<bool, AllocError>
+    ensures { Checks result stack.old stack.new (Step (context_in scope.now) (call_indirect sort)) }
 {
-    if !spaces.has_table() {
+    if !scope.spaces.has_table() {
         return Ok(false);
     }
-    match spaces.sort(sort) {
-        Some(sort) => stack.call_indirect(sort.params.as_slice(), result_type(sort)),
+    match scope.spaces.type_at(sort) {
+        Some(sort) => stack.apply_under_i32(sort.params.as_slice(), result_type(sort)),
         None => Ok(false),
     }
 }
 
-pub fn local_get(scope: &Scope, local: u32, stack: &mut Stack) -> Result<bool, AllocError>
-    ensures { IfOk result (λ fine. Moves fine stack.old stack.new (Step (body_context scope.now []) (code_local_get local))) }
+pub fn check_local_get(scope: &Scope, local: u32, stack: &mut Stack) -> Result<bool, AllocError>
+    ensures { Checks result stack.old stack.new (Step (context_in scope.now) (local_get local)) }
 {
-    match scope.local(local) {
+    match scope.local_type(local) {
         Some(kind) => stack.apply(&[], Some(kind)),
         None => Ok(false),
     }
 }
 
-pub fn local_set(scope: &Scope, local: u32, stack: &mut Stack) -> Result<bool, AllocError>
-    ensures { IfOk result (λ fine. Moves fine stack.old stack.new (Step (body_context scope.now []) (code_local_set local))) }
+pub fn check_local_set(scope: &Scope, local: u32, stack: &mut Stack) -> Result<bool, AllocError>
+    ensures { Checks result stack.old stack.new (Step (context_in scope.now) (local_set local)) }
 {
-    match scope.local(local) {
+    match scope.local_type(local) {
         Some(kind) => stack.apply(&[kind], None),
         None => Ok(false),
     }
 }
 
-pub fn local_tee(scope: &Scope, local: u32, stack: &mut Stack) -> Result<bool, AllocError>
-    ensures { IfOk result (λ fine. Moves fine stack.old stack.new (Step (body_context scope.now []) (code_local_tee local))) }
+pub fn check_local_tee(scope: &Scope, local: u32, stack: &mut Stack) -> Result<bool, AllocError>
+    ensures { Checks result stack.old stack.new (Step (context_in scope.now) (local_tee local)) }
 {
-    match scope.local(local) {
+    match scope.local_type(local) {
         Some(kind) => stack.apply(&[kind], Some(kind)),
         None => Ok(false),
     }
 }
 
-pub fn global_get(spaces: &IndexSpaces, global: u32, stack: &mut Stack) -> Result<bool, AllocError>
-    ensures { IfOk result (λ fine. Moves fine stack.old stack.new (Step (module_context spaces.now) (code_global_get global))) }
+pub fn check_global_get(scope: &Scope, global: u32, stack: &mut Stack) -> Result<bool, AllocError>
+    ensures { Checks result stack.old stack.new (Step (context_in scope.now) (global_get global)) }
 {
-    match spaces.global(global) {
+    match scope.spaces.global_type(global) {
         Some(sort) => stack.apply(&[], Some(sort.value)),
         None => Ok(false),
     }
 }
 
-pub fn global_set(spaces: &IndexSpaces, global: u32, stack: &mut Stack) -> Result<bool, AllocError>
-    ensures { IfOk result (λ fine. Moves fine stack.old stack.new (Step (module_context spaces.now) (code_global_set global))) }
+pub fn check_global_set(scope: &Scope, global: u32, stack: &mut Stack) -> Result<bool, AllocError>
+    ensures { Checks result stack.old stack.new (Step (context_in scope.now) (global_set global)) }
 {
-    match spaces.global(global) {
+    match scope.spaces.global_type(global) {
         Some(sort) if sort.variable => stack.apply(&[sort.value], None),
         _ => Ok(false),
     }
 }
 
+/// Takes operands off, the last one first, and puts a result on, where there is a memory.
+pub fn check_memory(
+    scope: &Scope,
+    taken: &[ValType],
+    given: Option<ValType>,
+    stack: &mut Stack,
+) -> Result<bool, AllocError>
+    ensures { Checks result stack.old stack.new
+        (Given (HasMemory (context_in scope.now).spaces)
+        (Takes (reverse taken.now) (result_list given))) }
+{
+    stack.apply_if(scope.spaces.has_memory(), taken, given)
+}
+
 /// A load, whose alignment is at most the natural one of its width.
-pub fn load(
-    spaces: &IndexSpaces,
+pub fn check_load(
+    scope: &Scope,
     op: u8,
     exponent: u32,
     offset: u32,
     stack: &mut Stack,
 ) -> Result<bool, AllocError>
-    ensures { IfOk result (λ fine. Moves fine stack.old stack.new (Step (module_context spaces.now) (code_load op exponent offset))) }
+    ensures { Checks result stack.old stack.new
+        (Step (context_in scope.now) (load op exponent offset)) }
 {
-    if !spaces.has_memory() {
-        return Ok(false);
-    }
     match load_access(op) {
         Some(loaded) if exponent <= loaded.exponent => {
-            stack.apply(&[ValType::I32], Some(loaded.value))
+            check_memory(scope, &[ValType::I32], Some(loaded.value), stack)
         },
         _ => Ok(false),
     }
 }
 
 /// A store, whose alignment is at most the natural one of its width.
-pub fn store(
-    spaces: &IndexSpaces,
+pub fn check_store(
+    scope: &Scope,
     op: u8,
     exponent: u32,
     offset: u32,
     stack: &mut Stack,
 ) -> Result<bool, AllocError>
-    ensures { IfOk result (λ fine. Moves fine stack.old stack.new (Step (module_context spaces.now) (code_store op exponent offset))) }
+    ensures { Checks result stack.old stack.new
+        (Step (context_in scope.now) (store op exponent offset)) }
 {
-    if !spaces.has_memory() {
-        return Ok(false);
-    }
     match store_access(op) {
         Some(stored) if exponent <= stored.exponent => {
-            stack.apply(&[ValType::I32, stored.value], None)
+            check_memory(scope, &[ValType::I32, stored.value], None, stack)
         },
         _ => Ok(false),
     }
 }
 
-pub fn memory_size(spaces: &IndexSpaces, stack: &mut Stack) -> Result<bool, AllocError>
-    ensures { IfOk result (λ fine. Moves fine stack.old stack.new (Step (module_context spaces.now) code_memory_size)) }
+fn apply_family(family: NumericFamily, stack: &mut Stack) -> Result<bool, AllocError>
+    ensures { Checks result stack.old stack.new
+        (Takes (numeric_operands family) (numeric_result family ∷ [])) }
 {
-    if spaces.has_memory() {
-        stack.apply(&[], Some(ValType::I32))
-    } else {
-        Ok(false)
+    match family {
+        NumericFamily::Unary(kind) => stack.apply(&[kind], Some(kind)),
+        NumericFamily::Binary(kind) => stack.apply(&[kind, kind], Some(kind)),
+        NumericFamily::Test(kind) => stack.apply(&[kind], Some(ValType::I32)),
+        NumericFamily::Comparison(kind) => stack.apply(&[kind, kind], Some(ValType::I32)),
+        NumericFamily::Conversion(from, to) => stack.apply(&[from], Some(to)),
     }
 }
 
-pub fn memory_grow(spaces: &IndexSpaces, stack: &mut Stack) -> Result<bool, AllocError>
-    ensures { IfOk result (λ fine. Moves fine stack.old stack.new (Step (module_context spaces.now) code_memory_grow)) }
+pub fn check_numeric(scope: &Scope, op: u8, stack: &mut Stack) -> Result<bool, AllocError>
+    ensures { Checks result stack.old stack.new (Step (context_in scope.now) (numeric op)) }
 {
-    if spaces.has_memory() {
-        stack.apply(&[ValType::I32], Some(ValType::I32))
-    } else {
-        Ok(false)
-    }
-}
-
-/// An instruction on integers.
-pub fn numeric(spaces: &IndexSpaces, op: u8, stack: &mut Stack) -> Result<bool, AllocError>
-    ensures { IfOk result (λ fine. Moves fine stack.old stack.new (Step (module_context spaces.now) (code_numeric op))) }
-{
-    match numeric_type(op) {
-        Some(sort) => stack.compute(sort),
+    match numeric_family(op) {
+        Some(family) => apply_family(family, stack),
         None => Ok(false),
     }
 }

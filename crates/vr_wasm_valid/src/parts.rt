@@ -1,133 +1,104 @@
-//! The parts of a module: each check answers the first component of its part that breaks its rule (WebAssembly Core 1.0,
-//! sections 3.2 and 3.4).
+//! The parts of a module (WebAssembly Core 1.0, sections 3.2 and 3.4): each search finds the first component of its
+//! part that breaks its rule.
 
-ghost use Rattle.std.specs.Prelude.{◌≡◌, ◌+◌, ◌<◌, ◌≤◌, ◌↔◌, ℕ, length, option_to_list, take, IfOk, IsTrue};
+ghost use Rattle.std.specs.Prelude.{◌≡◌, ◌<◌, ◌≤◌, ◌↔◌, ℕ, length, option_to_list, IfOk, IsTrue};
 ghost use Rattle.std.specs.List.{zip};
 ghost use Rattle.vr_wasm_ast.specs.declared.tree.Code.{Code as FunctionBody};
-ghost use Rattle.vr_wasm_ast.specs.declared.tree.Element.{Element as ElementSegment};
 ghost use Rattle.vr_wasm_ast.specs.declared.tree.GlobalDef.{GlobalDef as Definition};
 ghost use Rattle.vr_wasm_ast.specs.declared.tree.Import.{Import as Imported};
 ghost use Rattle.vr_wasm_ast.specs.declared.tree.Limits.{Limits as Sizes};
-ghost use Rattle.vr_wasm_ast.specs.Code.{body_of};
-ghost use Rattle.vr_wasm_valid.specs.Answer.{Answers};
+ghost use Rattle.vr_wasm_ast.specs.Instructions.{instructions_of};
+ghost use Rattle.vr_wasm_valid.specs.Answer.{FindsUnfit};
 ghost use Rattle.vr_wasm_valid.specs.Parts.{BodyFits, ElementFits, ImportFits, IsConstantExpression, MemoryFits, SegmentFits, StartFits, TableFits};
-ghost use Rattle.vr_wasm_valid.specs.Scope.{module_context};
+ghost use Rattle.vr_wasm_valid.specs.Scope.{spaces_in};
 
-use crate::answer::{
-    BODIES, ELEMENTS, FUNCTIONS, GLOBALS, IMPORTS, Invalid, MEMORIES, SEGMENTS, START, TABLES,
-};
 use crate::body::check_body;
 use crate::constant::is_constant_expression;
 use crate::limits::{import_fits, memory_fits, table_fits};
-use crate::scope::{IndexSpaces, Scope, result_type};
+use crate::spaces::IndexSpaces;
 use std::alloc::{AllocError, Global};
 use vr_wasm_ast::{Code, Element, GlobalDef, GlobalType, Import, Segment, ValType};
 
-pub fn check_imports(spaces: &IndexSpaces, imports: &[Import]) -> Result<(), Invalid>
-    requires { length imports.now ≤ 65536 }
-    ensures { Answers (λ (i : Imported). ImportFits (module_context spaces.now) i.what) imports.now IMPORTS 0 result }
+pub fn unfit_import(spaces: &IndexSpaces, imports: &[Import]) -> Option<usize>
+    ensures { FindsUnfit (λ (i : Imported). ImportFits (spaces_in spaces.now) i.what)
+        imports.now result }
 {
-    for (place, import) in imports.iter().enumerate() {
-        if !import_fits(spaces, import.what) {
-            return Err(Invalid::Part {
-                part: IMPORTS,
-                index: place as u32,
-            });
-        }
-    }
-    Ok(())
+    imports
+        .iter()
+        .position(|import| !import_fits(spaces, import.what))
 }
 
-/// The types of the module's own functions, the first of which has the index `first`.
-pub fn check_functions(spaces: &IndexSpaces, first: usize, functions: &[u32]) -> Result<(), Invalid>
-    requires { first + length functions.now ≤ 65536 }
-    ensures { Answers (λ sort. sort < length spaces.now.types.now) functions.now FUNCTIONS first result }
+/// Of the types of the module's own functions.
+pub fn unfit_function(spaces: &IndexSpaces, functions: &[u32]) -> Option<usize>
+    ensures { FindsUnfit (λ sort. sort < length spaces.now.types.now) functions.now result }
 {
     let count = spaces.types.len();
-    for (place, sort) in functions.iter().enumerate() {
-        if *sort as usize >= count {
-            return Err(Invalid::Part {
-                part: FUNCTIONS,
-                index: (first + place) as u32,
-            });
-        }
-    }
-    Ok(())
+    functions.iter().position(|sort| *sort as usize >= count)
 }
 
-/// One table at most, with good limits.
-pub fn check_tables(spaces: &IndexSpaces) -> Result<(), Invalid>
-    ensures { Answers (λ (l : Sizes). TableFits l × (length spaces.now.tables ≤ 1)) spaces.now.tables TABLES 0 result }
+/// There may be one table, with good limits.
+pub fn unfit_table(spaces: &IndexSpaces) -> Option<usize>
+    ensures { FindsUnfit (λ (l : Sizes). TableFits l × (length spaces.now.tables ≤ 1))
+        spaces.now.tables result }
 {
     match spaces.tables.as_slice() {
-        [] => Ok(()),
-        [only] if table_fits(*only) => Ok(()),
-        _ => Err(Invalid::Part {
-            part: TABLES,
-            index: 0,
-        }),
+        [] => None,
+        [only] if table_fits(*only) => None,
+        _ => Some(0),
     }
 }
 
-/// One memory at most, with good limits.
-pub fn check_memories(spaces: &IndexSpaces) -> Result<(), Invalid>
-    ensures { Answers (λ (l : Sizes). MemoryFits l × (length spaces.now.memories ≤ 1)) spaces.now.memories MEMORIES 0 result }
+/// There may be one memory, with good limits.
+pub fn unfit_memory(spaces: &IndexSpaces) -> Option<usize>
+    ensures { FindsUnfit (λ (l : Sizes). MemoryFits l × (length spaces.now.memories ≤ 1))
+        spaces.now.memories result }
 {
     match spaces.memories.as_slice() {
-        [] => Ok(()),
-        [only] if memory_fits(*only) => Ok(()),
-        _ => Err(Invalid::Part {
-            part: MEMORIES,
-            index: 0,
-        }),
+        [] => None,
+        [only] if memory_fits(*only) => None,
+        _ => Some(0),
     }
 }
 
 fn global_fits(imported: &[GlobalType], global: &GlobalDef) -> bool
-    ensures { IsTrue result ↔ IsConstantExpression imported.now global.now.sort.value (body_of global.now.init) }
+    ensures { IsTrue result ↔
+        IsConstantExpression imported.now global.now.sort.value (instructions_of global.now.init) }
 {
     is_constant_expression(imported, global.sort.value, global.init.as_slice())
 }
 
-/// The first values of the module's own globals, which may name imported ones.
-pub fn check_globals(imported: &[GlobalType], globals: &[GlobalDef]) -> Result<(), Invalid>
-    requires { length imported.now + length globals.now ≤ 131072 }
-    ensures { Answers (λ (g : Definition). IsConstantExpression imported.now g.sort.value (body_of g.init)) globals.now GLOBALS (length imported.now) result }
+/// Of the module's own globals, whose first values may name imported ones.
+pub fn unfit_global(imported: &[GlobalType], globals: &[GlobalDef]) -> Option<usize>
+    ensures { FindsUnfit
+        (λ (g : Definition).
+        IsConstantExpression imported.now g.sort.value (instructions_of g.init))
+        globals.now result }
 {
-    for (place, global) in globals.iter().enumerate() {
-        if !global_fits(imported, global) {
-            return Err(Invalid::Part {
-                part: GLOBALS,
-                index: (imported.len() + place) as u32,
-            });
-        }
-    }
-    Ok(())
+    globals
+        .iter()
+        .position(|global| !global_fits(imported, global))
 }
 
 fn start_fits(spaces: &IndexSpaces, function: u32) -> bool
-    ensures { IsTrue result ↔ StartFits (module_context spaces.now) function }
+    ensures { IsTrue result ↔ StartFits (spaces_in spaces.now) function }
 {
-    match spaces.function(function) {
+    match spaces.function_type(function) {
         Some(sort) => sort.params.is_empty() && sort.results.is_empty(),
         None => false,
     }
 }
 
-pub fn check_start(spaces: &IndexSpaces, start: Option<u32>) -> Result<(), Invalid>
-    ensures { Answers (λ f. StartFits (module_context spaces.now) f) (option_to_list start) START 0 result }
+pub fn unfit_start(spaces: &IndexSpaces, start: Option<u32>) -> Option<usize>
+    ensures { FindsUnfit (StartFits (spaces_in spaces.now)) (option_to_list start) result }
 {
     match start {
-        Some(function) if !start_fits(spaces, function) => Err(Invalid::Part {
-            part: START,
-            index: 0,
-        }),
-        _ => Ok(()),
+        Some(function) if !start_fits(spaces, function) => Some(0),
+        _ => None,
     }
 }
 
 fn element_fits(spaces: &IndexSpaces, element: &Element) -> bool
-    ensures { IsTrue result ↔ ElementFits (module_context spaces.now) element.now }
+    ensures { IsTrue result ↔ ElementFits (spaces_in spaces.now) element.now }
 {
     let count = spaces.functions.len();
     (element.table as usize) < spaces.tables.len()
@@ -143,19 +114,12 @@ fn element_fits(spaces: &IndexSpaces, element: &Element) -> bool
             .all(|function| (*function as usize) < count)
 }
 
-pub fn check_elements(spaces: &IndexSpaces, elements: &[Element]) -> Result<(), Invalid>
-    requires { length elements.now ≤ 65536 }
-    ensures { Answers (λ (e : ElementSegment). ElementFits (module_context spaces.now) e) elements.now ELEMENTS 0 result }
+pub fn unfit_element(spaces: &IndexSpaces, elements: &[Element]) -> Option<usize>
+    ensures { FindsUnfit (ElementFits (spaces_in spaces.now)) elements.now result }
 {
-    for (place, element) in elements.iter().enumerate() {
-        if !element_fits(spaces, element) {
-            return Err(Invalid::Part {
-                part: ELEMENTS,
-                index: place as u32,
-            });
-        }
-    }
-    Ok(())
+    elements
+        .iter()
+        .position(|element| !element_fits(spaces, element))
 }
 
 fn body_fits(
@@ -164,47 +128,37 @@ fn body_fits(
     sort: u32,
     function: &Code,
 ) -> Result<bool, AllocError>
-    ensures { IfOk result (λ fine. IsTrue fine ↔ BodyFits (module_context spaces.now) sort function.now) }
+    ensures { IfOk result (λ fine. IsTrue fine ↔
+        BodyFits (spaces_in spaces.now) sort function.now) }
 {
-    match spaces.sort(sort) {
-        Some(sort) => {
-            let scope = Scope {
-                spaces,
-                params: &sort.params,
-                declared: &function.locals,
-                returns: result_type(sort),
-            };
-            check_body(alloc, &scope, &function.body)
-        },
+    match spaces.type_at(sort) {
+        Some(sort) => check_body(alloc, spaces, sort, function),
         None => Ok(false),
     }
 }
 
-/// The bodies of the module's own functions, the first of which has the index `first`.
-pub fn check_bodies(
+/// Of the bodies of the module's own functions.
+pub fn unfit_body(
     alloc: Global,
     spaces: &IndexSpaces,
-    first: usize,
     functions: &[u32],
     codes: &[Code],
-) -> Result<(), Invalid>
-    requires few { first + length functions.now ≤ 65536 }
-    requires paired { length codes.now ≡ length functions.now }
-    ensures { Answers (λ (p : ℕ × FunctionBody). BodyFits (module_context spaces.now) p.0 p.1) (zip functions.now codes.now) BODIES first result }
+) -> Result<Option<usize>, AllocError>
+    requires { length codes.now ≡ length functions.now }
+    ensures { IfOk result (FindsUnfit
+        (λ (f : ℕ × FunctionBody). BodyFits (spaces_in spaces.now) f.0 f.1)
+        (zip functions.now codes.now)) }
 {
     for (place, function) in codes.iter().enumerate() {
         if !body_fits(alloc, spaces, functions[place], function)? {
-            return Err(Invalid::Part {
-                part: BODIES,
-                index: (first + place) as u32,
-            });
+            return Ok(Some(place));
         }
     }
-    Ok(())
+    Ok(None)
 }
 
 fn segment_fits(spaces: &IndexSpaces, segment: &Segment) -> bool
-    ensures { IsTrue result ↔ SegmentFits (module_context spaces.now) segment.now }
+    ensures { IsTrue result ↔ SegmentFits (spaces_in spaces.now) segment.now }
 {
     (segment.memory as usize) < spaces.memories.len()
         && is_constant_expression(
@@ -214,17 +168,10 @@ fn segment_fits(spaces: &IndexSpaces, segment: &Segment) -> bool
         )
 }
 
-pub fn check_segments(spaces: &IndexSpaces, segments: &[Segment]) -> Result<(), Invalid>
-    requires { length segments.now ≤ 65536 }
-    ensures { Answers (λ s. SegmentFits (module_context spaces.now) s) segments.now SEGMENTS 0 result }
+pub fn unfit_segment(spaces: &IndexSpaces, segments: &[Segment]) -> Option<usize>
+    ensures { FindsUnfit (SegmentFits (spaces_in spaces.now)) segments.now result }
 {
-    for (place, segment) in segments.iter().enumerate() {
-        if !segment_fits(spaces, segment) {
-            return Err(Invalid::Part {
-                part: SEGMENTS,
-                index: place as u32,
-            });
-        }
-    }
-    Ok(())
+    segments
+        .iter()
+        .position(|segment| !segment_fits(spaces, segment))
 }

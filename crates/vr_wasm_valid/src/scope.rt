@@ -1,120 +1,23 @@
-ghost use Rattle.std.specs.Prelude.{◌≡◌, ◌++◌, ◌↔◌, slice_get, map, IfOk, IsTrue};
-ghost use Rattle.std.specs.Option.{option_copied};
-ghost use Rattle.vr_wasm_ast.specs.declared.tree.GlobalDef.{GlobalDef};
-ghost use Rattle.vr_wasm_ast.specs.Imports.{function_of, global_of, imported_functions, imported_globals, imported_memories, imported_tables, memory_of, table_of};
-ghost use Rattle.vr_wasm_valid.specs.Context.{function_type, result_of};
-ghost use Rattle.vr_wasm_valid.specs.Scope.{AreSpacesOf, module_context};
-ghost use Rattle.vr_wasm_valid.specs.Typing.{HasMemory, HasTable};
+//! What code may name at a place, beside the index spaces of its module.
 
+ghost use Rattle.std.specs.Prelude.{◌≡◌, ◌++◌, ◌↔◌, slice_get, IsTrue};
+ghost use Rattle.vr_wasm_valid.specs.Context.{result_of};
+ghost use Rattle.vr_wasm_valid.specs.Scope.{context_in};
+
+use crate::spaces::IndexSpaces;
 use sqlite_items::Items;
-use std::alloc::{AllocError, Global};
-use vr_wasm_ast::{FuncType, GlobalDef, GlobalType, Import, ImportKind, Limits, Module, ValType};
+use std::alloc::Global;
+use vr_wasm_ast::{FuncType, ValType};
 
-/// The index spaces of a module, in which imports come first (WebAssembly Core 1.0, section 2.5.1).
-#[derive(Drop)]
-pub struct IndexSpaces<'m> {
-    pub types: &'m Items<FuncType>,
-    /// The index of each function's type.
-    pub functions: Items<u32>,
-    pub tables: Items<Limits>,
-    pub memories: Items<Limits>,
-    pub globals: Items<GlobalType>,
-    pub imported_functions: usize,
-    pub imported_globals: usize,
-}
-
-/// What the body of a function may name.
+/// The locals and the result of a function, and what a branch to each open block wants, the innermost last.
 #[derive(Drop)]
 pub struct Scope<'m> {
+    pub alloc: Global,
     pub spaces: &'m IndexSpaces<'m>,
     pub params: &'m Items<ValType>,
     pub declared: &'m Items<ValType>,
     pub returns: Option<ValType>,
-}
-
-fn imported_function(what: ImportKind) -> Option<u32>
-    ensures { result ≡ function_of what }
-{
-    match what {
-        ImportKind::Func(sort) => Some(sort),
-        _ => None,
-    }
-}
-
-fn imported_table(what: ImportKind) -> Option<Limits>
-    ensures { result ≡ table_of what }
-{
-    match what {
-        ImportKind::Table(limits) => Some(limits),
-        _ => None,
-    }
-}
-
-fn imported_memory(what: ImportKind) -> Option<Limits>
-    ensures { result ≡ memory_of what }
-{
-    match what {
-        ImportKind::Memory(limits) => Some(limits),
-        _ => None,
-    }
-}
-
-fn imported_global(what: ImportKind) -> Option<GlobalType>
-    ensures { result ≡ global_of what }
-{
-    match what {
-        ImportKind::Global(sort) => Some(sort),
-        _ => None,
-    }
-}
-
-/// The types of all functions, by their indices.
-fn function_space(alloc: Global, imports: &[Import], own: &[u32]) -> Result<Vec<u32>, AllocError>
-    ensures { IfOk result (λ all. all.items ≡ imported_functions imports.now ++ own.now) }
-{
-    imports
-        .iter()
-        .filter_map(|import| imported_function(import.what))
-        .chain(own.iter().copied())
-        .collect(alloc)
-}
-
-fn table_space(alloc: Global, imports: &[Import], own: &[Limits]) -> Result<Vec<Limits>, AllocError>
-    ensures { IfOk result (λ all. all.items ≡ imported_tables imports.now ++ own.now) }
-{
-    imports
-        .iter()
-        .filter_map(|import| imported_table(import.what))
-        .chain(own.iter().copied())
-        .collect(alloc)
-}
-
-fn memory_space(
-    alloc: Global,
-    imports: &[Import],
-    own: &[Limits],
-) -> Result<Vec<Limits>, AllocError>
-    ensures { IfOk result (λ all. all.items ≡ imported_memories imports.now ++ own.now) }
-{
-    imports
-        .iter()
-        .filter_map(|import| imported_memory(import.what))
-        .chain(own.iter().copied())
-        .collect(alloc)
-}
-
-fn global_space(
-    alloc: Global,
-    imports: &[Import],
-    own: &[GlobalDef],
-) -> Result<Vec<GlobalType>, AllocError>
-    ensures { IfOk result (λ all. all.items ≡ imported_globals imports.now ++ map (λ (g : GlobalDef). g.sort) own.now) }
-{
-    imports
-        .iter()
-        .filter_map(|import| imported_global(import.what))
-        .chain(own.iter().map(|global| global.sort))
-        .collect(alloc)
+    pub labels: Items<Option<ValType>>,
 }
 
 /// `==`, with its answer as one fact.
@@ -135,67 +38,10 @@ pub fn result_type(sort: &FuncType) -> Option<ValType>
     sort.results.get(0).copied()
 }
 
-impl<'m> IndexSpaces<'m> {
-    pub fn of(alloc: Global, module: &'m Module) -> Result<IndexSpaces<'m>, AllocError>
-        ensures { IfOk result (λ s. AreSpacesOf «module».now s) }
-    {
-        let imports = module.imports.as_slice();
-        let functions = function_space(alloc, imports, module.functions.as_slice())?;
-        let tables = table_space(alloc, imports, module.tables.as_slice())?;
-        let memories = memory_space(alloc, imports, module.memories.as_slice())?;
-        let globals = global_space(alloc, imports, module.globals.as_slice())?;
-        let imported_functions = functions.len() - module.functions.len();
-        let imported_globals = globals.len() - module.globals.len();
-        Ok(IndexSpaces {
-            imported_functions,
-            imported_globals,
-            types: &module.types,
-            functions: Items::from_vec(functions),
-            tables: Items::from_vec(tables),
-            memories: Items::from_vec(memories),
-            globals: Items::from_vec(globals),
-        })
-    }
-
-    pub fn sort(&self, sort: u32) -> Option<&FuncType>
-        ensures { option_copied result ≡ slice_get self.now.types.now sort }
-    {
-        self.types.get(sort as usize)
-    }
-
-    /// The type of a function.
-    pub fn function(&self, function: u32) -> Option<&FuncType>
-        ensures { option_copied result ≡ function_type (module_context self.now) function }
-    {
-        match self.functions.get(function as usize) {
-            Some(sort) => self.sort(*sort),
-            None => None,
-        }
-    }
-
-    pub fn global(&self, global: u32) -> Option<GlobalType>
-        ensures { result ≡ slice_get self.now.globals global }
-    {
-        self.globals.get(global as usize).copied()
-    }
-
-    pub fn has_table(&self) -> bool
-        ensures { IsTrue result ↔ HasTable (module_context self.now) }
-    {
-        !self.tables.is_empty()
-    }
-
-    pub fn has_memory(&self) -> bool
-        ensures { IsTrue result ↔ HasMemory (module_context self.now) }
-    {
-        !self.memories.is_empty()
-    }
-}
-
 impl Scope<'_> {
     /// The type of a local: the parameters come first.
-    pub fn local(&self, local: u32) -> Option<ValType>
-        ensures { result ≡ slice_get (self.now.params.now ++ self.now.declared.now) local }
+    pub fn local_type(&self, local: u32) -> Option<ValType>
+        ensures { result ≡ slice_get (context_in self.now).locals local }
     {
         let local = local as usize;
         let params = self.params.len();
@@ -203,6 +49,18 @@ impl Scope<'_> {
             self.params.get(local).copied()
         } else {
             self.declared.get(local - params).copied()
+        }
+    }
+
+    /// What a branch to a label wants, if there is such a label. Label 0 is that of the innermost block.
+    pub fn label(&self, label: u32) -> Option<Option<ValType>>
+        ensures { result ≡ slice_get (context_in self.now).labels label }
+    {
+        let label = label as usize;
+        if label < self.labels.len() {
+            self.labels.get(self.labels.len() - 1 - label).copied()
+        } else {
+            None
         }
     }
 }

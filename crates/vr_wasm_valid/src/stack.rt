@@ -1,19 +1,19 @@
-ghost use Rattle.std.specs.Prelude.{◌≡◌, [], ◌∷◌, ◌++◌, ◌↔◌, reverse, IfOk, OnOk, IsTrue, MatchOption, true, false};
+ghost use Rattle.std.specs.Prelude.{◌≡◌, [], ◌∷◌, ◌++◌, ◌↔◌, reverse, OnOk, IsTrue, MatchOption, true, false};
 ghost use Rattle.vr_wasm_ast.specs.declared.tree.ValType.TheVariants.{I32};
 ghost use Rattle.vr_wasm_valid.specs.Context.{result_list};
-ghost use Rattle.vr_wasm_valid.specs.Shape.{Shape, shape, Fits, Matches, Moves, Steps, Sticks, Pops, Pushes, IsBare, Meets, Differ};
-ghost use Rattle.vr_wasm_valid.specs.Steps.{Takes, Leaves, Drops, Selects};
-ghost use Rattle.vr_wasm_valid.specs.Typing.{operands};
+ghost use Rattle.vr_wasm_valid.specs.Shape.{Shape, shape, Checks, Differ, Fits, IsBare, Matches, Meets, Moves, Pops, Pushes, Steps};
+ghost use Rattle.vr_wasm_valid.specs.Steps.{Drops, Given, Leaves, Selects, Takes};
 
 use sqlite_items::Items;
 use std::alloc::{AllocError, Global};
 use std::marker::Model;
-use vr_wasm_ast::{NumericType, ValType};
+use vr_wasm_ast::ValType;
 
 /// What is known of the operand types at a place in the code: the last ones, each known or not, and whether any
 /// others may lie below them, as they may where the code can't be reached (WebAssembly Core 1.0, appendix A.3).
 #[derive(Drop)]
 pub struct Stack {
+    alloc: Global,
     known: Items<Option<ValType>>,
     open_below: bool,
 }
@@ -52,16 +52,17 @@ impl Stack {
         ensures { result ≡ shape [] false }
     {
         Stack {
+            alloc,
             known: Items::new(alloc),
             open_below: false,
         }
     }
 
-    /// After code that is never left: any types may stand.
-    pub fn open(&mut self, alloc: Global)
+    /// After code that is never left: any operands are possible.
+    fn open(&mut self)
         ensures { self.new ≡ shape [] true }
     {
-        self.known = Items::new(alloc);
+        self.known = Items::new(self.alloc);
         self.open_below = true;
     }
 
@@ -93,14 +94,14 @@ impl Stack {
         }
     }
 
-    /// Whether nothing is known to stand there.
+    /// Whether there may be no operands.
     fn is_bare(&self) -> bool
         ensures { IsTrue result ↔ Fits self.now [] }
     {
         self.known.is_empty()
     }
 
-    /// Whether nothing is known, and any operands may stand.
+    /// Whether nothing is known, and any operands are possible.
     fn is_free(&self) -> bool
         ensures { IsTrue result ↔ (self.now ≡ shape [] true) }
     {
@@ -119,7 +120,7 @@ impl Stack {
     }
 
     /// Takes these operands off, the last one first. It looks at no more of them than are known: where the others may
-    /// be of any types, they are not looked at one by one.
+    /// be of any type, they aren't looked at one by one.
     fn take_all(&mut self, wanted: &[ValType]) -> bool
         ensures { Moves result self.old self.new (Takes (reverse wanted.now) []) }
     {
@@ -145,7 +146,7 @@ impl Stack {
 
     /// Takes operands off, the last one first, and puts a result on.
     pub fn apply(&mut self, taken: &[ValType], given: Option<ValType>) -> Result<bool, AllocError>
-        ensures { IfOk result (λ fine. Moves fine self.old self.new (Takes (reverse taken.now) (result_list given))) }
+        ensures { Checks result self.old self.new (Takes (reverse taken.now) (result_list given)) }
     {
         if self.take_all(taken) {
             self.give(given)?;
@@ -155,13 +156,53 @@ impl Stack {
         }
     }
 
-    /// Takes operands off, and what follows can't be reached.
-    fn leave(&mut self, alloc: Global, taken: &[ValType]) -> bool
-        ensures { Moves result self.old self.new (λ before _. Leaves (reverse taken.now) before) }
+    /// The same where a condition holds, and else there is no typing.
+    pub fn apply_if(
+        &mut self,
+        condition: bool,
+        taken: &[ValType],
+        given: Option<ValType>,
+    ) -> Result<bool, AllocError>
+        ensures { Checks result self.old self.new
+            (Given (IsTrue condition) (Takes (reverse taken.now) (result_list given))) }
     {
-        let fine = self.take_all(taken);
-        self.open(alloc);
+        if condition {
+            self.apply(taken, given)
+        } else {
+            Ok(false)
+        }
+    }
+
+    /// The same under an i32, which is taken off too.
+    pub fn apply_under_i32(
+        &mut self,
+        taken: &[ValType],
+        given: Option<ValType>,
+    ) -> Result<bool, AllocError>
+        ensures { Checks result self.old self.new
+            (Takes (I32 ∷ reverse taken.now) (result_list given)) }
+    {
+        if self.take(ValType::I32) {
+            self.apply(taken, given)
+        } else {
+            Ok(false)
+        }
+    }
+
+    /// Takes what a branch or the function wants off, and what follows can't be reached.
+    pub fn leave(&mut self, wanted: Option<ValType>) -> bool
+        ensures { Moves result self.old self.new (Leaves (result_list wanted)) }
+    {
+        let fine = self.take_all(wanted.as_slice());
+        self.open();
         fine
+    }
+
+    /// The same under an i32, which is taken off too.
+    pub fn leave_under_i32(&mut self, wanted: Option<ValType>) -> bool
+        ensures { Moves result self.old self.new (Leaves (I32 ∷ result_list wanted)) }
+    {
+        self.take(ValType::I32) && self.leave(wanted)
     }
 
     /// Takes any operand off.
@@ -176,7 +217,7 @@ impl Stack {
 
     /// Takes an i32 and two operands of one type off, and puts one of that type on.
     pub fn select(&mut self) -> Result<bool, AllocError>
-        ensures { IfOk result (λ fine. Moves fine self.old self.new Selects) }
+        ensures { Checks result self.old self.new Selects }
     {
         if !self.take(ValType::I32) {
             return Ok(false);
@@ -192,65 +233,6 @@ impl Stack {
         };
         self.push(kind)?;
         Ok(true)
-    }
-
-    /// Leaves for a label, or the function.
-    pub fn leave_to(&mut self, alloc: Global, label: Option<ValType>) -> bool
-        ensures { Moves result self.old self.new (λ before _. Leaves (result_list label) before) }
-    {
-        self.leave(alloc, label.as_slice())
-    }
-
-    /// Takes an i32, and leaves for a label.
-    pub fn leave_by_table(&mut self, alloc: Global, label: Option<ValType>) -> bool
-        ensures { Moves result self.old self.new (λ before _. Leaves (I32 ∷ result_list label) before) }
-    {
-        if self.take(ValType::I32) {
-            self.leave_to(alloc, label)
-        } else {
-            false
-        }
-    }
-
-    /// Takes an i32, and finds what a label wants.
-    pub fn test_for(&mut self, label: Option<ValType>) -> Result<bool, AllocError>
-        ensures { IfOk result (λ fine. Moves fine self.old self.new (Takes (I32 ∷ result_list label) (result_list label))) }
-    {
-        if self.take(ValType::I32) {
-            let fine = self.apply(label.as_slice(), label)?;
-            Ok(fine)
-        } else {
-            Ok(false)
-        }
-    }
-
-    /// Takes an i32 and arguments, and puts a result on.
-    pub fn call_indirect(
-        &mut self,
-        taken: &[ValType],
-        given: Option<ValType>,
-    ) -> Result<bool, AllocError>
-        ensures { IfOk result (λ fine. Moves fine self.old self.new (Takes (I32 ∷ reverse taken.now) (result_list given))) }
-    {
-        if self.take(ValType::I32) {
-            let fine = self.apply(taken, given)?;
-            Ok(fine)
-        } else {
-            Ok(false)
-        }
-    }
-
-    /// Takes the operands of an instruction on integers, and puts its result on.
-    pub fn compute(&mut self, sort: NumericType) -> Result<bool, AllocError>
-        ensures { IfOk result (λ fine. Moves fine self.old self.new (Takes (operands sort) (sort.result ∷ []))) }
-    {
-        if sort.binary {
-            let fine = self.apply(&[sort.operand, sort.operand], Some(sort.result))?;
-            Ok(fine)
-        } else {
-            let fine = self.apply(&[sort.operand], Some(sort.result))?;
-            Ok(fine)
-        }
     }
 
     /// Whether the operands may be these and no others.

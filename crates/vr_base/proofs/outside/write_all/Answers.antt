@@ -1,4 +1,4 @@
-use Rattle.std.proofs.Common.{arith, take-add}
+use Rattle.std.proofs.Common.{arith, take-add, ◌∙◌}
 use Rattle.std.proofs.lemmas.List.{take_rest}
 use Rattle.vr_base.proofs.Written.{Appends-then}
 use Rattle.vr_base.proofs.outside.write_all.Goals as goal
@@ -11,5 +11,6 @@ loop-at-preserved g c =
     record {
       within = omega arith;
       written = rw take-add (rw (take_rest c.args.bytes.now c.loop-at.at) at both);
+      beside = c.in_ok-at.ensures.beside ∙ c.loop-at.invariant.beside;
       later = omega arith;
     }

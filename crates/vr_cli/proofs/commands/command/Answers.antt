@@ -1,29 +1,17 @@
 use Rattle.std.proofs.Common.{map}
 use Rattle.std.specs.Prelude.{string_bytes}
-use Rattle.vr_cli.specs.Answers.{answer_of}
-use Rattle.vr_cli.proofs.Clauses.{told_ends, told_complete, told_refused}
+use Rattle.vr_cli.proofs.EndingLemmas.{never_usage}
+use Rattle.vr_cli.proofs.WordLemmas.{usage_at, usage_never, no_task}
 use Rattle.vr_cli.proofs.commands.command.Goals as goal
 
-pub returns-clause-done : goal.returns-clause-done
-returns-clause-done g c e = told_ends _ (answer_of (map string_bytes c.args.words.now)) _ _ _ _ e c.outcome.ensures.ends
+pub returns-in-Err-clause-usage : goal.returns-in-Err-clause-usage
+returns-in-Err-clause-usage g c = usage_at (map string_bytes c.args.words.now) _ c.in-Err.ensures
 
-pub returns-clause-policy_refused : goal.returns-clause-policy_refused
-returns-clause-policy_refused g c stage rule at e = told_ends _ (answer_of (map string_bytes c.args.words.now)) _ _ _ _ e c.outcome.ensures.ends
+pub returns-in-Err-clause-ends : goal.returns-in-Err-clause-ends
+returns-in-Err-clause-ends g c task asks = absurd (no_task (map string_bytes c.args.words.now) _ task c.in-Err.ensures asks)
 
-pub returns-clause-script_refused : goal.returns-clause-script_refused
-returns-clause-script_refused g c line e = told_ends _ (answer_of (map string_bytes c.args.words.now)) _ _ _ _ e c.outcome.ensures.ends
+pub returns-in-Ok-run-clause-usage : goal.returns-in-Ok-run-clause-usage
+returns-in-Ok-run-clause-usage g c = usage_never (map string_bytes c.args.words.now) _ _ c.in-Ok.ensures (λ place same. cc (same))
 
-pub returns-clause-not_there : goal.returns-clause-not_there
-returns-clause-not_there g c word e = told_ends _ (answer_of (map string_bytes c.args.words.now)) _ _ _ _ e c.outcome.ensures.ends
-
-pub returns-clause-cut_off : goal.returns-clause-cut_off
-returns-clause-cut_off g c e = told_ends _ (answer_of (map string_bytes c.args.words.now)) _ _ _ _ e c.outcome.ensures.ends
-
-pub returns-clause-out_of_memory : goal.returns-clause-out_of_memory
-returns-clause-out_of_memory g c e = told_ends _ (answer_of (map string_bytes c.args.words.now)) _ _ _ _ e c.outcome.ensures.ends
-
-pub returns-clause-refused : goal.returns-clause-refused
-returns-clause-refused g c = told_refused _ (answer_of (map string_bytes c.args.words.now)) _ _ _ c.outcome.ensures.ends
-
-pub returns-clause-complete : goal.returns-clause-complete
-returns-clause-complete g c = told_complete _ (answer_of (map string_bytes c.args.words.now)) _ _ _ c.outcome.ensures.ends
+pub returns-in-Err-run-clause-usage : goal.returns-in-Err-run-clause-usage
+returns-in-Err-run-clause-usage g c = usage_never (map string_bytes c.args.words.now) _ _ c.in-Ok.ensures (never_usage _ _ _ _ _ c.in-Err-run.ensures.cause)

@@ -1,25 +1,24 @@
 use Rattle.std.proofs.Common.{arith}
-use Rattle.std.proofs.lemmas.Result.{err_from_is_err_and}
-use Rattle.vr_cli.proofs.Replays.{piece_behind, front_behind, front_so_far}
+use Rattle.vr_report.specs.Texts.{file_line}
+use Rattle.vr_cli.proofs.GatheringLemmas.{HandsIn-failed, Gathers-added, AppendsPrefix-added, reaches_on, reaches_cut, reaches_so_far}
 use Rattle.vr_cli.proofs.replaying.write_files.Goals as goal
 
 pub loop-path-preserved : goal.loop-path-preserved
 loop-path-preserved g c =
     let so_far = c.loop-path.invariant in
-    let text = rw (c.as_slice.ensures, c.in_ok-text.ensures) at c.in_ok-write_text.ensures.ok in
+    let added = rw c.in_ok-add_file_line.ensures at c.in_ok-left.ensures.text in
     record {
-      text = piece_behind _ _ _ _ _ _ _ so_far.text.1 (rw c.in-Some.ensures.steps at so_far.text.2) text;
+      lines = reaches_on _ _ _ _ _ _ _ _ _ (rw c.in-Some.ensures.steps at so_far.lines) (Gathers-added _ _ _ _ _ added);
       later = omega arith;
     }
 
-pub returns-in_err-text-clause-err : goal.returns-in_err-text-clause-err
-returns-in_err-text-clause-err g c =
-    let same = err_from_is_err_and c.from_residual.result c.from_residual.ensures.1 in
-    rw same.1 (front_so_far _ _ _ _ _ c.loop-path.invariant.text.1 c.loop-path.invariant.text.2)
+pub returns-in_err-add_file_line-clause-text : goal.returns-in_err-add_file_line-clause-text
+returns-in_err-add_file_line-clause-text g c =
+    HandsIn-failed _ _ _ _ _ c.from_residual.ensures.0 (reaches_so_far _ _ _ _ _ _ c.loop-path.invariant.lines)
 
-pub returns-in_err-write_text-clause-err : goal.returns-in_err-write_text-clause-err
-returns-in_err-write_text-clause-err g c =
-    let same = err_from_is_err_and c.from_residual-in_err-write_text.result c.from_residual-in_err-write_text.ensures.1 in
+pub returns-in_err-left-clause-text : goal.returns-in_err-left-clause-text
+returns-in_err-left-clause-text g c =
     let so_far = c.loop-path.invariant in
-    let text = rw (c.as_slice.ensures, c.in_ok-text.ensures) at c.in_err-write_text.ensures.err in
-    rw same.1 (front_behind _ _ _ _ _ _ _ so_far.text.1 (rw c.in-Some.ensures.steps at so_far.text.2) text)
+    let added = rw c.in_ok-add_file_line.ensures at c.in_err-left.ensures.text in
+    let line = file_line (c.in-Some.path.now, c.in-Some.body.now) in
+    HandsIn-failed _ _ _ _ _ c.from_residual-in_err-left.ensures.0 (reaches_cut _ _ _ _ _ line _ _ (rw c.in-Some.ensures.steps at so_far.lines) (AppendsPrefix-added _ _ c.loop-path.left line added))

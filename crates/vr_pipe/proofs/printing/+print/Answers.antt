@@ -1,5 +1,5 @@
 use Rattle.std.proofs.lemmas.Result.{IfOk-equal}
-use Rattle.vr_pipe.proofs.Joins.{written_if, writes_feed, writes_then}
+use Rattle.vr_pipe.proofs.TextLemmas.{written_if, writes_feed, writes_then}
 use Rattle.vr_pipe.proofs.printing.+print.Goals as goal
 
 pub print_tree-returns-in_ok-print_tree-in-If : goal.print_tree-returns-in_ok-print_tree-in-If

@@ -1,6 +1,6 @@
 use Rattle.std.proofs.Common.{sym, ◌∙◌}
 use Rattle.vr_pipe.specs.Tokens.{piece_of}
-use Rattle.vr_pipe.proofs.Lexing.{past_word_of, word_result}
+use Rattle.vr_pipe.proofs.PieceLemmas.{past_word_of, word_result}
 use Rattle.vr_pipe.proofs.tokens.first_token.Goals as goal
 
 pub returns-else-is_sign-clause-pieces : goal.returns-else-is_sign-clause-pieces

@@ -1,6 +1,6 @@
 use Rattle.std.proofs.Common.{◌∙◌, ◌+◌, sym}
 use Rattle.std.proofs.lemmas.Bool.{eqb-true}
-use Rattle.vr_pipe.proofs.Lexing.{blank_result, no_pieces}
+use Rattle.vr_pipe.proofs.PieceLemmas.{blank_result, no_pieces}
 use Rattle.vr_pipe.proofs.tokens.next_token.Goals as goal
 
 pub returns-then-is_empty-clause-pieces : goal.returns-then-is_empty-clause-pieces

@@ -4,7 +4,7 @@ use Rattle.std.proofs.lemmas.Bool.{le-ltb}
 use Rattle.std.proofs.lemmas.Str.{IsUtf8-from_is_utf8, is_utf8-from_IsUtf8}
 use Rattle.std.specs.Str.{is_utf8}
 use Rattle.serde_json.specs.Read.{read}
-use Rattle.vr_policy_read.specs.Faults.{or_fault}
+use Rattle.vr_base.specs.Checks.{or_fault}
 use Rattle.vr_policy_read.specs.declared.faults.ReadKind.TheVariants.{NotJson}
 use Rattle.vr_policy_read.proofs.json.tree.Goals as goal
 

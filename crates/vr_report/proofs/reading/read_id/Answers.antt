@@ -1,5 +1,5 @@
 use Rattle.std.proofs.Common.{rules, ◌≡◌, true}
-use Rattle.vr_report.specs.Script.{is_numeral}
+use Rattle.vr_report.specs.Lines.{is_numeral}
 use Rattle.vr_report.proofs.Digits.{digits_of_numeral, text_of_digits, id_parsed}
 use Rattle.vr_report.proofs.reading.read_id.Goals as goal
 

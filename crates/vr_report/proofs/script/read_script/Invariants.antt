@@ -1,13 +1,13 @@
 -- The calls so far and those of what is left are those of all, and there are no more lines than bytes.
 use Rattle.std.proofs.Common.{◌≡◌, ◌+◌, ◌≤◌, length}
 use Rattle.std.specs.Str.Lines.{lines}
-use Rattle.vr_report.specs.Script.{calls_from}
-use Rattle.vr_report.proofs.Calls.{behind}
+use Rattle.vr_report.specs.Script.{script_from}
+use Rattle.vr_report.proofs.Calls.{after}
 use Rattle.vr_report.proofs.script.read_script.Given as goal
 
 abbrev pub invariant-loop-left : goal.invariant-loop-left
 invariant-loop-left l = record {
-  calls : behind l.calls.items (calls_from l.number (lines l.left)) ≡ calls_from 1 (lines l.bytes);
+  calls : after l.calls.items (script_from l.number (lines l.left)) ≡ script_from 1 (lines l.bytes);
   numbers : l.number + length l.left ≤ length l.bytes + 1;
 }
 

@@ -1,7 +1,7 @@
 use Rattle.std.proofs.Common.{◌-◌, ◌<◌, arith, get_or}
 use Rattle.std.proofs.lemmas.Grind.{common_steps}
 use Rattle.vr_wasm_ast.specs.Numbers.{number_from}
-use Rattle.vr_wasm_ast.proofs.Signed.{fits, is_joined, from_joined, below_joined}
+use Rattle.vr_wasm_ast.proofs.SignedLemmas.{fits, is_joined, from_joined, below_joined}
 use Rattle.vr_wasm_ast.proofs.cursor.+signed_in.Goals as goal
 
 pub overflow_mul-result : goal.overflow_mul-result

@@ -1,5 +1,5 @@
 use Rattle.std.proofs.Common.{arith}
-use Rattle.vr_wasm_ast.proofs.Powers.{seven_more, most32}
+use Rattle.vr_wasm_ast.proofs.PowerLemmas.{seven_more, most32}
 use Rattle.vr_wasm_ast.proofs.cursor.+unsigned_in.Goals as goal
 
 pub overflow_mul-result : goal.overflow_mul-result

@@ -1,11 +1,11 @@
-use Rattle.std.proofs.Common.{◌≡◌, ℕ, ◌-◌, ◌+◌, ◌≤◌, ◌<◌, Bool, true, false, eqb, length, arith}
+use Rattle.std.proofs.Common.{◌≡◌, ◌-◌, false, eqb, length, arith}
 use Rattle.std.specs.Prelude.{◌&&◌}
 use Rattle.std.proofs.lemmas.Bool.{ne_eqb}
 use Rattle.std.proofs.lemmas.Result.{err_from_is_err_and}
-use Rattle.vr_wasm_decode.specs.Reading.{sequence as sequence_at}
-use Rattle.vr_wasm_decode.proofs.Laws.{shorter}
-use Rattle.vr_wasm_decode.proofs.CodeLaws.{sequence_found, instruction_found}
-use Rattle.vr_wasm_decode.proofs.Sequences.{begins, byte_fails, ends, ends_by_else, instruction_fails, goes_on, no_else_allowed, other_than_else, stood, block_ok, loop_ok, block_fails, loop_fails, if_fails, other_fails, if_ok}
+use Rattle.vr_wasm_decode.specs.Instructions.{sequence_at}
+use Rattle.vr_wasm_decode.proofs.ReaderLemmas.{shorter}
+use Rattle.vr_wasm_decode.proofs.InstructionLemmas.{sequence_found, instruction_found}
+use Rattle.vr_wasm_decode.proofs.SequenceLoop.{begins, byte_fails, ends, ends_by_else, instruction_fails, goes_on, no_else_allowed, other_than_else, stood, block_ok, loop_ok, block_fails, loop_fails, if_fails, other_fails, if_ok}
 use Rattle.vr_wasm_decode.proofs.instructions.+nesting.Goals as goal
 use Rattle.vr_wasm_decode.proofs.instructions.+nesting.Goals.{sequence-else-op-eq-ELSE-via-then-op-eq-ELSE+else-may_else, sequence-else-op-eq-ELSE-via-else-op-eq-ELSE}
 

@@ -1,5 +1,5 @@
-use Rattle.std.proofs.Common.{ℕ, ◌+◌, ◌*◌, length}
-use Rattle.vr_wasm_decode.proofs.Sequences.{GoesOn}
+use Rattle.std.proofs.Common.{◌+◌, ◌*◌, length}
+use Rattle.vr_wasm_decode.proofs.SequenceLoop.{GoesOn}
 use Rattle.vr_wasm_decode.proofs.instructions.+nesting.Given as goal
 
 abbrev pub decreases-nested : goal.decreases-nested

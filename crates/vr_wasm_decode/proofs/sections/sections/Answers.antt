@@ -1,9 +1,9 @@
 use Rattle.std.proofs.lemmas.Result.{err_from_is_err_and}
-use Rattle.vr_wasm_decode.proofs.Passes.{begins, ends, section_fails, fewer, goes_on}
+use Rattle.vr_wasm_decode.proofs.SectionLoop.{begins, ends, section_fails, fewer, goes_on}
 use Rattle.vr_wasm_decode.proofs.sections.sections.Goals as goal
 
 pub each-init : goal.each-init
-each-init c = rw c.empty-so_far.ensures (begins c.args.cursor.now)
+each-init c = rw c.begin-so_far.ensures (begins c.args.cursor.now)
 
 pub returns-in_default : goal.returns-in_default
 returns-in_default c =

@@ -1,5 +1,5 @@
 use Rattle.std.proofs.Common.{length}
-use Rattle.vr_wasm_decode.proofs.Passes.{GoesOn}
+use Rattle.vr_wasm_decode.proofs.SectionLoop.{GoesOn}
 use Rattle.vr_wasm_decode.proofs.sections.sections.Given as goal
 
 -- what is still read from here is what is read from the beginning, for any fuel that is enough

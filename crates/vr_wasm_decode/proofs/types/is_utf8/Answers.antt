@@ -1,6 +1,6 @@
 use Rattle.std.proofs.Common.{◌≡◌, ◌∙◌}
 use Rattle.std.specs.Str.{IsValidUpTo}
-use Rattle.vr_wasm_decode.proofs.Texts.{tests_text}
+use Rattle.vr_wasm_decode.proofs.TextLemmas.{tests_text}
 use Rattle.vr_wasm_decode.proofs.types.is_utf8.Goals as goal
 
 pub returns : goal.returns

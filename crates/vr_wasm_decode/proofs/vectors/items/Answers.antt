@@ -1,5 +1,5 @@
-use Rattle.vr_wasm_decode.specs.Reader.{items as items_at}
-use Rattle.vr_wasm_decode.proofs.Loops.{goes_on}
+use Rattle.vr_wasm_decode.specs.Reader.{items_at}
+use Rattle.vr_wasm_decode.proofs.ItemLoop.{goes_on}
 use Rattle.vr_wasm_decode.proofs.vectors.items.Goals as goal
 
 pub loop-preserved : goal.loop-preserved

@@ -1,6 +1,12 @@
-use Rattle.vr_wasm_ast.specs.Code.{body_of}
-use Rattle.vr_wasm_valid.proofs.Runs.{body_checks}
+use Rattle.std.proofs.Common.{◌++◌}
+use Rattle.vr_wasm_ast.specs.Instructions.{instructions_of}
+use Rattle.vr_wasm_valid.specs.Scope.{spaces_in}
+use Rattle.vr_wasm_valid.proofs.TypingLemmas.{body_checked}
 use Rattle.vr_wasm_valid.proofs.body.check_body.Goals as goal
 
 pub returns : goal.returns
-returns c = body_checks c.args.scope.now (body_of c.args.body.now) c.new-labels.result c.check_block.result c.new-labels.ensures c.check_block.ensures.typed
+returns c =
+    let locals = c.args.sort.now.params ++ c.args.function.now.locals in
+    body_checked (spaces_in c.args.spaces.now) locals (instructions_of c.args.function.now.body)
+    c.check_block.result
+    c.result_type-returns.ensures c.new.ensures c.check_block.ensures.typed

@@ -2,7 +2,7 @@ use Rattle.std.proofs.Common.{◌≡◌, w32, w64, to_z, of_z, Ok, Err, arith}
 use Rattle.std.proofs.lemmas.Int.{ints}
 use Rattle.std.proofs.lemmas.Result.{err_from_is_err_and}
 use Rattle.vr_wasm_ast.specs.Numbers.{last_signed, more_signed}
-use Rattle.vr_wasm_ast.proofs.Cursors.{is_found, is_bad, is_short}
+use Rattle.vr_wasm_ast.proofs.CursorLemmas.{is_found, is_bad, is_short}
 use Rattle.vr_wasm_ast.proofs.cursor.Cursor.read_s32.Goals as goal
 
 pub returns-in_err-number-clause-bad : goal.returns-in_err-number-clause-bad

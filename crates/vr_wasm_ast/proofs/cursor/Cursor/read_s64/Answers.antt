@@ -1,6 +1,6 @@
 use Rattle.std.proofs.Common.{arith}
 use Rattle.vr_wasm_ast.specs.Numbers.{last_signed, more_signed}
-use Rattle.vr_wasm_ast.proofs.Cursors.{is_found, is_bad, is_short}
+use Rattle.vr_wasm_ast.proofs.CursorLemmas.{is_found, is_bad, is_short}
 use Rattle.vr_wasm_ast.proofs.cursor.Cursor.read_s64.Goals as goal
 
 pub returns-clause-found : goal.returns-clause-found

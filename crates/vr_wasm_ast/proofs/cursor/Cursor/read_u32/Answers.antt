@@ -1,6 +1,6 @@
 use Rattle.std.proofs.Common.{arith}
 use Rattle.vr_wasm_ast.specs.Numbers.{last_unsigned, more_unsigned}
-use Rattle.vr_wasm_ast.proofs.Cursors.{is_found, is_bad, is_short}
+use Rattle.vr_wasm_ast.proofs.CursorLemmas.{is_found, is_bad, is_short}
 use Rattle.vr_wasm_ast.proofs.cursor.Cursor.read_u32.Goals as goal
 
 pub returns-clause-found : goal.returns-clause-found

@@ -1,10 +1,9 @@
-use Rattle.std.proofs.Common.{reverse}
-use Rattle.vr_wasm_valid.specs.Context.{result_list}
-use Rattle.vr_wasm_valid.proofs.Shapes.{apply_steps, apply_sticks}
+use Rattle.std.proofs.Common.{refl}
+use Rattle.vr_wasm_valid.proofs.ShapeLemmas.{apply_steps, apply_sticks, checks_nowhere, checks_on}
 use Rattle.vr_wasm_valid.proofs.stack.Stack.apply.Goals as goal
 
 pub returns-in_ok-give : goal.returns-in_ok-give
-returns-in_ok-give c = apply_steps (reverse c.args.taken.now) (result_list c.args.given) c.args.self.now c.take_all.new.self c.give.new.self c.if-take_all.ensures c.in_ok-give.ensures
+returns-in_ok-give c = checks_on (apply_steps (c.if-take_all.ensures.steps refl) c.in_ok-give.ensures)
 
 pub returns-else-take_all : goal.returns-else-take_all
-returns-else-take_all c = apply_sticks (reverse c.args.taken.now) (result_list c.args.given) c.args.self.now c.if-take_all.ensures
+returns-else-take_all c = checks_nowhere (apply_sticks (c.if-take_all.ensures.sticks refl))

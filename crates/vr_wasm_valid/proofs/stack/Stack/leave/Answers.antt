@@ -1,6 +1,7 @@
-use Rattle.std.proofs.Common.{reverse}
-use Rattle.vr_wasm_valid.proofs.Shapes.{leaves_along}
+use Rattle.vr_wasm_valid.proofs.ShapeLemmas.{leaves_moves, slice_of_result}
 use Rattle.vr_wasm_valid.proofs.stack.Stack.leave.Goals as goal
 
 pub returns : goal.returns
-returns c = leaves_along (reverse c.args.taken.now) c.take_all-fine.result c.args.self.now c.take_all-fine.new.self c.open.new.self c.open.ensures c.take_all-fine.ensures
+returns c =
+    let whole = slice_of_result c.args.wanted c.as_slice.result.now c.as_slice.ensures in
+    leaves_moves c.open.ensures whole c.take_all-fine.ensures

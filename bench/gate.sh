@@ -1,0 +1,8 @@
+#!/bin/sh
+# Runs `rt ci` with the words given here and prints, by the moments at which its own lines came, the seconds of each crate: of
+# its proof, from when the last crate below it was proved, and of its must-fail edits. Crates run side by side, so the
+# sum is more than the whole.
+#   bench/gate.sh [--anew] [NAME..]
+set -eu
+cd "$(dirname "$0")/.."
+rt ci "$@" 2>&1 | python3 bench/gate.py crates.txt

@@ -1,0 +1,29 @@
+-- The parts of a replay's text, which are gathered one after the other.
+use Rattle.std.proofs.Common.{ℕ, List, ◌++◌, Option, Result, sym, subst, append_assoc}
+use Rattle.vr_base.specs.Outside.{AppendsPrefix}
+use Rattle.vr_base.proofs.Written.{AppendsPrefix-more}
+use Rattle.vr_core.specs.Machine.{Origin}
+use Rattle.vr_report.specs.Texts.{policy_line, script_lines, files_text, script_replay, replay_text}
+use Rattle.vr_report.specs.declared.script.Line.{Line}
+use Rattle.vr_cli.specs.Gathering.{Gathers, Writes}
+use Rattle.vr_cli.proofs.GatheringLemmas.{Gathers-then, AppendsPrefix-gathered, Writes-gathered}
+
+module _ (origin : Origin) (script : List Line) where
+  module _ (a b : Option (List ℕ)) where
+    -- the calls' lines were begun
+    pub replay_called : AppendsPrefix a b (policy_line origin.hash ++ script_lines origin origin.opening script) → AppendsPrefix a b (replay_text origin script)
+    replay_called h = AppendsPrefix-more a b _ _ h
+
+    module _ (rest : List ℕ) (calls : Gathers a b (policy_line origin.hash) rest (script_lines origin origin.opening script)) where
+      -- the calls' lines were gathered, and the files' lines were begun
+      pub replay_listed : (c : Option (List ℕ)) → AppendsPrefix b c (rest ++ files_text (script_replay origin origin.opening script).files) → AppendsPrefix a c (replay_text origin script)
+      replay_listed c h =
+          subst (λ (t : List ℕ). AppendsPrefix a c t) (sym (append_assoc (policy_line origin.hash) (script_lines origin origin.opening script) (files_text (script_replay origin origin.opening script).files)))
+          (AppendsPrefix-gathered a b c (policy_line origin.hash) rest rest _ _ calls h)
+
+      -- all lines were gathered, and then what was held is written
+      pub replay_written : {A E : Type 0} (result : Result A E) (c d : Option (List ℕ)) (rest' : List ℕ) → Gathers b c rest rest' (files_text (script_replay origin origin.opening script).files)
+          → Writes result c d rest' → Writes result a d (replay_text origin script)
+      replay_written result c d rest' h k =
+          subst (λ (t : List ℕ). Writes result a d t) (sym (append_assoc (policy_line origin.hash) (script_lines origin origin.opening script) (files_text (script_replay origin origin.opening script).files)))
+          (Writes-gathered result a c d (policy_line origin.hash) rest' _ (Gathers-then a b c (policy_line origin.hash) rest rest' _ _ calls h) k)

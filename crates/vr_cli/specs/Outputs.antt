@@ -1,0 +1,91 @@
+-- What a task writes over the files of a folder, or the status of the first check that fails.
+use Rattle.std.specs.Prelude.{ℕ, List, [], ◌∷◌, ◌++◌, Result, Ok, nat_lt, length, codes, decimal}
+use Rattle.hex.specs.Hex.{encode_lower}
+use Rattle.sha2.specs.Sha256.{sha256}
+use Rattle.vr_base.specs.Checks.{◌>>=◌, or_fault, unless_fault, fault_if, result_map_err}
+use Rattle.vr_base.specs.Outside.{file_of}
+use Rattle.vr_base.specs.Signs.{line_feed}
+use Rattle.vr_core.specs.State.{no_files}
+use Rattle.vr_core.specs.Machine.{Origin}
+use Rattle.vr_policy_read.specs.Limits.{most_policy}
+use Rattle.vr_policy_read.specs.Policies.{policy_within}
+use Rattle.vr_policy_read.specs.declared.faults.ReadFault.{ReadFault as PolicyFault}
+use Rattle.vr_policy_read.specs.Faults.{kind_number}
+use Rattle.vr_policy_read.specs.declared.faults.ReadKind.TheVariants.{TooLong}
+use Rattle.vr_policy_read.specs.PolicyData.{PolicyData}
+use Rattle.vr_policy_check.specs.Faults.{kind_number as rule_number}
+use Rattle.vr_policy_check.specs.Rules.{CheckedData, check_of}
+use Rattle.vr_policy_check.specs.declared.faults.CheckFault.{CheckFault}
+use Rattle.vr_report.specs.Script.{script_of, most_script}
+use Rattle.vr_report.specs.Texts.{replay_text}
+use Rattle.vr_report.specs.declared.script.Line.{Line}
+use Rattle.vr_cli.specs.Words.{Task, hash, check, replay}
+use Rattle.vr_cli.specs.declared.status.Status.{Status}
+use Rattle.vr_cli.specs.declared.status.Status.TheVariants.{PolicyRefused, ScriptRefused, Absent}
+
+-- what a check lets pass, or the status of the check that fails
+abbrev pub Tested : Type 0 → Type 0
+Tested A = Result A Status
+
+-- files by their names
+abbrev pub NamedFiles : Type 0
+NamedFiles = List (List ℕ × List ℕ)
+
+-- the bytes of the file that the word at this place names
+abbrev pub bytes_named : ℕ → List ℕ → NamedFiles → Tested (List ℕ)
+bytes_named place name files = or_fault (Absent place) (file_of name files)
+
+-- a policy that its reading refuses, which is the first stage
+abbrev pub policy_refusal : PolicyFault → Status
+policy_refusal fault = PolicyRefused 1 (kind_number fault.kind) fault.at
+
+-- a policy that breaks a rule, which is the second stage
+abbrev pub rule_refusal : CheckFault → Status
+rule_refusal fault = PolicyRefused 2 (rule_number fault.kind) fault.at
+
+-- the checked policy that at most so many bytes say
+abbrev pub checked_from : ℕ → List ℕ → Tested CheckedData
+checked_from most bytes = do
+  policy ← result_map_err policy_refusal (policy_within most bytes)
+  result_map_err rule_refusal (check_of policy)
+
+-- how many identities, programs, pipelines and hashes of files a policy has
+abbrev pub counts_line : PolicyData → List ℕ
+counts_line policy =
+    codes "ok " ++ (decimal (length policy.identities) ++ (codes " " ++ (decimal (length policy.programs)
+    ++ (codes " " ++ (decimal (length policy.pipelines) ++ (codes " " ++ (decimal (length policy.pins) ++ line_feed ∷ [])))))))
+
+-- the hash of a policy file with these bytes, in 64 digits
+abbrev pub digits_of : List ℕ → List ℕ
+digits_of bytes = encode_lower (sha256 bytes)
+
+-- where a replay begins: the policy that at most so many bytes say, the hash of its file, and no files
+abbrev pub origin_from : ℕ → List ℕ → Tested Origin
+origin_from most bytes = do
+  policy ← result_map_err policy_refusal (policy_within most bytes)
+  Ok (record { policy = policy; hash = digits_of bytes; opening = no_files })
+
+-- the calls of the script that at most so many bytes are
+abbrev pub script_in : ℕ → List ℕ → Tested (List Line)
+script_in most bytes = result_map_err ScriptRefused (script_of most bytes)
+
+-- the hash of a policy file of at most so many bytes; a longer one is refused as its reading would refuse it
+abbrev pub digits_from : ℕ → List ℕ → Tested (List ℕ)
+digits_from most bytes = unless_fault (fault_if (nat_lt most (length bytes)) (PolicyRefused 1 (kind_number TooLong) 0)) (digits_of bytes)
+
+-- what a reading says of the file that the word at this place names
+abbrev pub in_file : {A : Type 0} → (List ℕ → Tested A) → ℕ → List ℕ → NamedFiles → Tested A
+in_file reading place name files = bytes_named place name files >>= reading
+
+-- The text of a task over the files of a folder.
+abbrev pub text_of : Task → NamedFiles → Tested (List ℕ)
+text_of (hash policy) files = do
+  digits ← in_file (digits_from most_policy) 1 policy files
+  Ok (digits ++ line_feed ∷ [])
+text_of (check policy) files = do
+  checked ← in_file (checked_from most_policy) 1 policy files
+  Ok (counts_line checked.policy)
+text_of (replay policy script) files = do
+  origin ← in_file (origin_from most_policy) 1 policy files
+  calls ← in_file (script_in most_script) 2 script files
+  Ok (replay_text origin calls)

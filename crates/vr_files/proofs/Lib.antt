@@ -1,0 +1,10 @@
+pub mod Chunks
+pub mod Overwriting
+pub mod PageLemmas
+pub mod PagedLemmas
+pub mod SizeLemmas
+pub mod EntryLemmas
+pub mod MapLemmas
+pub mod ChangeLemmas
+pub mod OverlayLemmas
+pub mod DifferenceLemmas

@@ -1,0 +1,16 @@
+pub mod CallLemmas
+pub mod ChainLemmas
+pub mod CollectLemmas
+pub mod FlowLemmas
+pub mod HolderLemmas
+pub mod LawLemmas
+pub mod LongestLemmas
+pub mod MakingLemmas
+pub mod PathLemmas
+pub mod PositionLemmas
+pub mod PrefixLemmas
+pub mod QuotaLemmas
+pub mod RegionLemmas
+pub mod SearchLemmas
+pub mod WordLemmas
+pub mod ZipLemmas

@@ -1,0 +1,9 @@
+pub mod Calls
+pub mod Flows
+pub mod Holders
+pub mod Kept
+pub mod Ordered
+pub mod Quotas
+pub mod Regions
+pub mod Tables
+pub mod Words

@@ -1,0 +1,4 @@
+pub mod CountLemmas
+pub mod FlatLemmas
+pub mod JumpLemmas
+pub mod LayerLemmas
