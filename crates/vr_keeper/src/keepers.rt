@@ -95,4 +95,8 @@ pub trait Keeper {
 
     /// A keeper that tells what a crash may leave tells its rows.
     ghost crashes_tell_rows: { (k : Self) → IsTrue (tells_crashes k) → IsSome (rows k) };
+
+    /// A crash since a later moment is one since an earlier moment too.
+    ghost crash_times: { (k : Self) (earlier later : ℕ) (map : FileMap) → IsTrue (tells_crashes k)
+        → earlier ≤ later → may_leave k later map → may_leave k earlier map };
 }

@@ -77,6 +77,8 @@ impl Keeper for MemKeeper {
 
     ghost crashes_tell_rows = { λ k h. refl };
 
+    ghost crash_times = { λ k earlier later map tells within left. tt };
+
     fn load(&mut self, alloc: Global, _store: &[u8]) -> Result<Rows, KeepFault> {
         self.loaded = false;
         if fails(&mut self.calls, &self.failing) {

@@ -42,6 +42,8 @@ impl Keeper for NeverFails {
 
     ghost crashes_tell_rows = { λ k h. refl };
 
+    ghost crash_times = { λ k earlier later map tells within left. tt };
+
     fn load(&mut self, alloc: Global, _store: &[u8]) -> Result<Rows, KeepFault> {
         self.loaded = false;
         let rows = self.rows.list(alloc)?;

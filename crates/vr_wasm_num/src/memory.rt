@@ -1,6 +1,6 @@
 //! Linear memory (WebAssembly Core 1.0, sections 4.2.8 and 4.4.4, and the later copy and fill).
 
-ghost use Rattle.std.specs.Prelude.{◌≡◌, ◌+◌, ◌*◌, ◌^◌, ◌<◌, ◌≤◌, ◌↔◌, IsTrue, IsSome, IfOk, IfSome, OnSome, IfNone, length, replicate, if◌then◌else◌};
+ghost use Rattle.std.specs.Prelude.{◌≡◌, ◌+◌, ◌*◌, ◌^◌, ◌<◌, ◌≤◌, ◌↔◌, IsTrue, is_some, IsSome, IfOk, IfSome, OnSome, IfNone, length, replicate, if◌then◌else◌};
 
 use std::alloc::{AllocError, Global};
 use std::marker::Model;
@@ -37,7 +37,7 @@ impl Model for Memory {
 }
 
 impl Memory {
-    ghost use Rattle.vr_wasm_num.specs.Memory.{Contents, IsPaged, IsWidth, pages_of, number_of, bytes_of, part, with_piece, with_pages};
+    ghost use Rattle.vr_wasm_num.specs.Memory.{Contents, IsPaged, IsWidth, is_within, pages_of, number_of, bytes_of, part, with_piece, with_pages};
 
     /// So many pages of zeros, with room for so many pages at most. The room is reserved, and only the pages are
     /// written.
@@ -76,13 +76,16 @@ impl Memory {
         Some(pages)
     }
 
-    /// So many bytes from a place on, or `None` where one of them lies past the end.
+    /// So many bytes from a place on, or `None` where one of them lies past the end. No bytes are there wherever they
+    /// begin.
     pub fn view(&self, at: u64, len: u64) -> Option<&[u8]>
-        ensures fits { IsSome result ↔ (at + len ≤ length self.now.bytes) }
+        ensures fits { is_some result ≡ is_within self.now at len }
         ensures bytes { IfSome result (λ bytes. bytes.now ≡ part self.now.bytes at len) }
     {
-        let (start, end) = self.range(at, len)?;
-        Some(&self.bytes[start..end])
+        if len == 0 {
+            return Some(&self.bytes[..0]);
+        }
+        self.bytes_at(at, len)
     }
 
     /// The number that 1, 2, 4 or 8 bytes spell, the lowest byte first, or `None` where one of them lies past the end.
@@ -92,7 +95,7 @@ impl Memory {
         ensures number { IfSome result (λ number. number ≡ number_of (part self.now.bytes at width)) }
         ensures below { IfSome result (λ number. number < 2 ^ (8 * width)) }
     {
-        let bytes = self.view(at, u64::from(width))?;
+        let bytes = self.bytes_at(at, u64::from(width))?;
         Some(match width {
             1 => u64::from(bytes[0]),
             2 => u64::from(u16::from_le_bytes([bytes[0], bytes[1]])),
@@ -103,18 +106,13 @@ impl Memory {
         })
     }
 
-    /// Writes bytes from a place on. Where one of them would lie past the end, nothing is written.
+    /// Writes bytes from a place on. Where one of them would lie past the end, nothing is written. To write none succeeds
+    /// wherever they would begin.
     pub fn write(&mut self, at: u64, bytes: &[u8]) -> bool
-        ensures fits { IsTrue result ↔ (at + length bytes.now ≤ length self.old.bytes) }
+        ensures fits { result ≡ is_within self.old at (length bytes.now) }
         ensures written { self.new ≡ (if result then with_piece self.old at bytes.now else self.old) }
     {
-        match self.range(at, bytes.len() as u64) {
-            Some((start, end)) => {
-                self.bytes[start..end].copy_from_slice(bytes);
-                true
-            }
-            None => false,
-        }
+        bytes.is_empty() || self.place(at, bytes)
     }
 
     /// Writes the lowest 1, 2, 4 or 8 bytes of a number, the lowest first. Where one of them would lie past the end,
@@ -125,7 +123,7 @@ impl Memory {
         ensures written { self.new ≡
             (if result then with_piece self.old at (bytes_of width value) else self.old) }
     {
-        self.write(at, &value.to_le_bytes()[..usize::from(width)])
+        self.place(at, &value.to_le_bytes()[..usize::from(width)])
     }
 
     /// Copies so many bytes from one place to another, as they were before: the two ranges may overlap. Where either
@@ -154,6 +152,29 @@ impl Memory {
         match self.range(at, len) {
             Some((start, end)) => {
                 self.bytes[start..end].fill(byte);
+                true
+            }
+            None => false,
+        }
+    }
+
+    /// The bytes of a range that doesn't pass the end.
+    fn bytes_at(&self, at: u64, len: u64) -> Option<&[u8]>
+        ensures fits { IsSome result ↔ (at + len ≤ length self.now.bytes) }
+        ensures bytes { IfSome result (λ bytes. bytes.now ≡ part self.now.bytes at len) }
+    {
+        let (start, end) = self.range(at, len)?;
+        Some(&self.bytes[start..end])
+    }
+
+    /// Writes bytes over a range that doesn't pass the end.
+    fn place(&mut self, at: u64, bytes: &[u8]) -> bool
+        ensures fits { IsTrue result ↔ (at + length bytes.now ≤ length self.old.bytes) }
+        ensures written { self.new ≡ (if result then with_piece self.old at bytes.now else self.old) }
+    {
+        match self.range(at, bytes.len() as u64) {
+            Some((start, end)) => {
+                self.bytes[start..end].copy_from_slice(bytes);
                 true
             }
             None => false,

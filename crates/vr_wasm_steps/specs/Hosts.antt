@@ -1,5 +1,5 @@
 -- What a host replies to a call.
-use Rattle.std.specs.Prelude.{ℕ, ◌≡◌, List, [], ◌∷◌, length, Some, Option, IsTrue}
+use Rattle.std.specs.Prelude.{ℕ, ◌≡◌, ◌+◌, ◌-◌, ◌^◌, ◌≤◌, min, List, [], ◌∷◌, length, Some, Option, IsTrue}
 use Rattle.vr_wasm_ast.specs.declared.tree.FuncType.{FuncType}
 use Rattle.vr_wasm_ast.specs.declared.tree.ValType.{ValType}
 use Rattle.vr_wasm_num.specs.Memory.{Contents}
@@ -19,6 +19,15 @@ IsReply reply (Value v) memory w = reply ≡ gives_value v memory w
 IsReply reply Nothing memory w = reply ≡ gives_nothing memory w
 IsReply reply (Exit code) memory w = reply ≡ exits code memory w
 IsReply reply NoMemory memory w = Unit {0}
+
+-- a count of stops rose, or stands at its end
+abbrev pub Rose : ℕ → ℕ → Type 0
+Rose before now = min (before + 1) (2 ^ 64 - 1) ≤ now
+
+-- where memory ran out the host's world and the memory are as before
+pub record StopsClean {W : Type 0} (old new : Contents) (before after : W) : Type 0 where
+  pub memory : new ≡ old
+  pub world : after ≡ before
 
 -- as many bytes and as many pages at most
 pub record SameSize (old new : Contents) : Type 0 where
