@@ -1,0 +1,9 @@
+pub mod CaseLemmas
+pub mod EffectLemmas
+pub mod FittingLemmas
+pub mod LinkedLemmas
+pub mod MemoryLemmas
+pub mod NeverLostLemmas
+pub mod NumberLemmas
+pub mod RowLemmas
+pub mod TermLemmas
