@@ -3,6 +3,10 @@ use Rattle.std.proofs.Common.{◌≡◌, ℕ, ◌+◌, ◌<◌, List, [], ◌∷
 use Rattle.std.specs.List.{cons_option, filter_map}
 use Rattle.std.proofs.lemmas.List.{map-append, take_more}
 use Rattle.std.proofs.lemmas.List.Elements.{filter_map-append}
+use Rattle.vr_wasm_ast.specs.declared.tree.FuncType.{FuncType}
+use Rattle.vr_wasm_ast.specs.declared.tree.Import.{Import}
+use Rattle.vr_wasm_steps.specs.Rows.{Callee}
+use Rattle.vr_wasm_link.specs.Opening.{Finds, imported_callee}
 
 -- what one more item gives
 filtered_more : {X Y : Type 0} (h : X → Option Y) (xs : List X) (i : ℕ) (x : X) → i < length xs
@@ -32,3 +36,9 @@ passed_over f h old before xs i x within at so_far gives =
     so_far ∙ ap (λ ys. before ++ ys) (sym (filtered_more h xs i x within at
     ∙ ap (λ o. filter_map h (take i xs) ++ cons_option o []) gives
     ∙ append-nil (filter_map h (take i xs))))
+
+-- the callee of an import that was looked for in these types
+pub callee_here : (finds : Finds) (types others : List FuncType) (i : Import) (given : Option Callee)
+    → others ≡ types → given ≡ imported_callee finds others i → imported_callee finds types i ≡ given
+callee_here finds types others i given same is =
+    ap (λ ts. imported_callee finds ts i) (sym same) ∙ sym is

@@ -95,9 +95,29 @@ own_linked finds m pages o valid p k within =
           ∙ slice_get-append_right (imported_callees finds m) (own_callees m) k ∙ here;
     }
 
+-- the type of an imported function of the program, and of one of the module's own
+imported_callee_typed : (finds : Finds) (m : Module) (f : ℕ) (callee : Callee) → IsImported finds m (callees finds m) f
+    → slice_get (callees finds m) f ≡ Some callee → function_type (spaces_of m) f ≡ Some (type_of callee)
+imported_callee_typed finds m f callee i there =
+    let same : Some (outside i.sort i.which) ≡ Some callee = sym i.there ∙ there in
+    let same_callee : outside i.sort i.which ≡ callee = cc same in
+    i.typed ∙ ap (λ c. Some (type_of c)) same_callee
+
+own_callee_typed : (finds : Finds) (m : Module) (f k : ℕ) (callee : Callee) → IsOwn m (callees finds m) k
+    → length (imported_functions m.imports) + k ≡ f → slice_get (callees finds m) f ≡ Some callee
+    → function_type (spaces_of m) f ≡ Some (type_of callee)
+own_callee_typed finds m f k callee i place there =
+    let here : slice_get (callees finds m) (length (imported_functions m.imports) + k) ≡ Some callee =
+    ap (slice_get (callees finds m)) place ∙ there in
+    let same : Some (own i.sort (length i.code.locals) (instructions_of i.code.body)) ≡ Some callee =
+    sym i.there ∙ here in
+    let same_callee : own i.sort (length i.code.locals) (instructions_of i.code.body) ≡ callee = cc same in
+    ap (function_type (spaces_of m)) (sym place)
+    ∙ own_type m k i.typed.index i.sort i.typed.declared i.typed.type_there ∙ ap (λ c. Some (type_of c)) same_callee
+
 -- each function of the program has its type in the module
-callee_typed : (finds : Finds) (m : Module) (pages : ℕ) (o : Opening) → IsValid m
-    → Passes finds m pages o → (f : ℕ) (callee : Callee) → slice_get (callees finds m) f ≡ Some callee
+callee_typed : (finds : Finds) (m : Module) (pages : ℕ) (o : Opening) → IsValid m → Passes finds m pages o → (f : ℕ)
+    (callee : Callee) → slice_get (callees finds m) f ≡ Some callee
     → function_type (spaces_of m) f ≡ Some (type_of callee)
 callee_typed finds m pages o valid p f callee there =
     let count = length (imported_functions m.imports) in
@@ -105,24 +125,12 @@ callee_typed finds m pages o valid p f callee there =
     let counted = callees_count finds m pages o valid p in
     let total = length-append (imported_functions m.imports) m.functions in
     elim (cases_lt f count) [
-      | inl below ↦
-          let i = imported_linked finds m pages o p f below in
-          let same : Some (outside i.sort i.which) ≡ Some callee = sym i.there ∙ there in
-          let same_callee : outside i.sort i.which ≡ callee = cc same in
-          i.typed ∙ ap (λ c. Some (type_of c)) same_callee
+      | inl below ↦ imported_callee_typed finds m f callee (imported_linked finds m pages o p f below) there
       | inr above ↦
           let k = f - count in
           let place : count + k ≡ f = omega arith in
           let within : k < length m.functions = omega (arith, counted, total) in
-          let i = own_linked finds m pages o valid p k within in
-          let same : Some (own i.sort (length i.code.locals) (instructions_of i.code.body)) ≡ Some callee =
-          sym i.there ∙ ap (λ n. slice_get (callees finds m) n) place ∙ there in
-          let same_callee : own i.sort (length i.code.locals) (instructions_of i.code.body) ≡ callee = cc same in
-          let moved : function_type (spaces_of m) f ≡ function_type (spaces_of m) (count + k) =
-          ap (λ n. function_type (spaces_of m) n) (sym place) in
-          let typed : function_type (spaces_of m) (count + k) ≡ Some i.sort =
-          own_type m k i.typed.index i.sort i.typed.declared i.typed.type_there in
-          moved ∙ typed ∙ ap (λ c. Some (type_of c)) same_callee
+          own_callee_typed finds m f k callee (own_linked finds m pages o valid p k within) place there
     ]
 
 -- ---- where it begins

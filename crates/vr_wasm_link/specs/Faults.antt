@@ -24,6 +24,7 @@ abbrev pub told_by : LinkKind → ℕ → Told LinkFault
 told_by OutOfMemory index = nothing
 told_by kind index = exactly (fault kind index)
 
+-- what a fault of the code tells
 abbrev pub told : LinkFault → Told LinkFault
 told f = told_by f.kind f.index
 

@@ -11,9 +11,11 @@ use Rattle.vr_wasm_steps.specs.Store.{Store}
 use Rattle.vr_wasm_valid.specs.Context.{spaces_of}
 use Rattle.vr_wasm_valid.specs.Parts.{StartFits}
 
+-- the store before the first step
 abbrev pub store_in : Opened → Store
 store_in o = record { memory = o.memory; table = o.table.items; globals = o.globals.items }
 
+-- the parts as what a module opens with
 abbrev pub opening_parts : Opened → Opening
 opening_parts o = record {
   functions = map function_of o.functions.items;

@@ -61,13 +61,15 @@ abbrev pub own_callee : List FuncType → ℕ × Code → Option Callee
 own_callee types f = option_map (λ (sort : FuncType).
     own sort (length f.1.locals) (instructions_of f.1.body)) (slice_get types f.0)
 
+-- the imported functions
 abbrev pub imported_callees : Finds → Module → List Callee
 imported_callees finds m = filter_map (imported_callee finds m.types) m.imports
 
+-- the module's own functions
 abbrev pub own_callees : Module → List Callee
 own_callees m = filter_map (own_callee m.types) (zip m.functions m.codes)
 
--- the imported ones come first
+-- all functions, of which the imported ones come first
 abbrev pub callees : Finds → Module → List Callee
 callees finds m = imported_callees finds m ++ own_callees m
 
@@ -82,6 +84,7 @@ abbrev pub takes_nothing : Option Callee → Bool
 takes_nothing None = false
 takes_nothing (Some f) = is_bare (type_of f)
 
+-- a function is exported
 abbrev pub is_function : ExportKind → Bool
 is_function exported.Func = true
 is_function exported.Table = false
@@ -94,10 +97,12 @@ is_main functions e =
     bytes_eq e.name (codes "_start") && is_function e.what
     && takes_nothing (slice_get functions e.index)
 
+-- the index of what is exported, or the fault that nothing is
 abbrev pub index_or_fault : Option Export → Result ℕ LinkFault
 index_or_fault None = Err (fault kinds.NoStart 0)
 index_or_fault (Some e) = Ok e.index
 
+-- the function that is called after the start function
 abbrev pub main_of : List Callee → List Export → Result ℕ LinkFault
 main_of functions exports = index_or_fault (find (is_main functions) exports)
 
@@ -113,22 +118,23 @@ abbrev pub most_pages : ℕ → List Limits → ℕ
 most_pages pages [] = 0
 most_pages pages (l ∷ ls) = min pages (unwrap_or l.max pages)
 
--- the size is above the limit
+-- the fault, where the size is above the limit
 abbrev pub within : LinkFault → ℕ → ℕ → Result (Unit {0}) LinkFault
 within refused limit size = if nat_lt limit size then Err refused else Ok tt
 
--- where a segment begins
+-- where an element segment begins
 abbrev pub element_offset : List ℕ → Element → ℕ
 element_offset globals e = constant_value globals (instructions_of e.offset)
 
+-- where a data segment begins
 abbrev pub segment_offset : List ℕ → Segment → ℕ
 segment_offset globals s = constant_value globals (instructions_of s.offset)
 
--- it passes the end of a table of this size
+-- an element segment passes the end of a table of this size
 abbrev pub element_overruns : List ℕ → ℕ → Element → Bool
 element_overruns globals size e = nat_lt size (element_offset globals e + length e.functions)
 
--- it passes the end of a memory of so many bytes
+-- a data segment passes the end of a memory of so many bytes
 abbrev pub segment_overruns : List ℕ → ℕ → Segment → Bool
 segment_overruns globals size s = nat_lt size (segment_offset globals s + length s.bytes)
 
@@ -142,16 +148,17 @@ with_element globals table e =
 abbrev pub with_segment : List ℕ → Contents → Segment → Contents
 with_segment globals memory s = with_piece memory (segment_offset globals s) s.bytes
 
--- so many pages of zeros
+-- so many pages of zeros, of so many at most
 abbrev pub zeros : ℕ → ℕ → Contents
 zeros pages most = record { bytes = replicate (pages * PAGE_SIZE) 0; most = most }
 
--- the segments are written in their order, a later one over an earlier one
+-- the table with the element segments in their order, a later one over an earlier one
 abbrev pub opening_table : Module → List (Option ℕ)
 opening_table m =
     fold (with_element (global_values m.globals)) (replicate (least_size m.tables) None)
     m.elements
 
+-- the memory with the data segments in their order, a later one over an earlier one
 abbrev pub opening_memory : Module → ℕ → Contents
 opening_memory m pages =
     fold (with_segment (global_values m.globals))

@@ -1,7 +1,6 @@
-use Rattle.std.proofs.Common.{◌≡◌, ◌<◌, ◌∙◌, List, [], None, Some, false, ap, arith, get_or, length, sym, zero-add}
+use Rattle.std.proofs.Common.{◌≡◌, ◌<◌, ◌∙◌, [], None, Some, false, ap, arith, get_or, length, zero-add}
 use Rattle.std.specs.Prelude.{is_none}
-use Rattle.vr_wasm_ast.specs.declared.tree.FuncType.{FuncType}
-use Rattle.vr_wasm_link.proofs.CalleeLemmas.{pushed}
+use Rattle.vr_wasm_link.proofs.CalleeLemmas.{callee_here, pushed}
 use Rattle.vr_wasm_link.proofs.PlaceLemmas.{found_next, none_more}
 use Rattle.vr_wasm_link.specs.declared.faults.LinkKind.TheVariants as kinds
 use Rattle.vr_wasm_link.specs.Faults.{none_at}
@@ -18,7 +17,7 @@ returns-in-None-clause-answer g c =
     let within : place < length m.imports = omega (arith, ap length c.as_slice-import-items.ensures) in
     let at : x ≡ get_or m.imports place x = cc in
     let none : imported_callee finds m.types x ≡ None =
-    ap (λ (ts : List FuncType). imported_callee finds ts x) (sym c.as_slice.ensures) ∙ sym c.in-None.ensures in
+    callee_here finds m.types c.as_slice.result.now x None c.as_slice.ensures c.in-None.ensures in
     let found = found_next (is_missing finds m.types) m.imports place x 0 within at
     c.loop-place.invariant.found (ap is_none none) in
     ap (none_at kinds.Import) (found ∙ ap Some (zero-add place))
@@ -33,7 +32,8 @@ loop-place-preserved g c =
     let within : place < length m.imports = omega (arith, ap length c.as_slice-import-items.ensures) in
     let at : x ≡ get_or m.imports place x = cc in
     let some : imported_callee finds m.types x ≡ Some (function_of callee) =
-    ap (λ (ts : List FuncType). imported_callee finds ts x) (sym c.as_slice.ensures) ∙ sym c.in-Some.ensures in
+    callee_here finds m.types c.as_slice.result.now x (Some (function_of callee)) c.as_slice.ensures
+    c.in-Some.ensures in
     let there : is_missing finds m.types x ≡ false = ap is_none some in
     record {
       found = none_more (is_missing finds m.types) m.imports place x 0 within at c.loop-place.invariant.found there;
