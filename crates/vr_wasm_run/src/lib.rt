@@ -1,0 +1,4 @@
+//! Runs WebAssembly programs, step by step.
+#![tactic(auto)]
+
+mod state;
