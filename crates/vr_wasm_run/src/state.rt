@@ -1,9 +1,16 @@
 //! The instructions that stay in their sequence.
 
-use vr_wasm_ast::{NumericFamily, ValType, numeric_family};
+ghost use Rattle.std.specs.Prelude.{◌≡◌, ◌*◌, ◌^◌, ◌<◌, ◌≤◌};
+ghost use Rattle.vr_wasm_num.specs.Memory.{IsWidth};
+ghost use Rattle.vr_wasm_run.specs.Access.{IsNarrow};
+ghost use Rattle.vr_wasm_steps.specs.Effects.{extended};
+
+use vr_wasm_ast::{
+    MemoryAccess, NumericFamily, ValType, load_access, numeric_family, store_access,
+};
 use vr_wasm_num::{
-    MEMORY_OUT_OF_BOUNDS, Memory, TOO_MANY_VALUES, Trap, convert, i32_binary, i32_compare, i32_unary,
-    i64_binary, i64_compare, i64_unary,
+    MEMORY_OUT_OF_BOUNDS, Memory, TOO_MANY_VALUES, Trap, convert, i32_binary, i32_compare,
+    i32_unary, i64_binary, i64_compare, i64_unary,
 };
 use vr_wasm_stacks::Stacks;
 
@@ -17,7 +24,7 @@ pub struct State<'m> {
 }
 
 impl<'m> State<'m> {
-    ghost use Rattle.vr_wasm_ast.specs.Instructions.{nop, drop, select, local_get, local_set, local_tee, global_get, global_set, memory_size, memory_grow, memory_copy, memory_fill, i32_const, i64_const, numeric};
+    ghost use Rattle.vr_wasm_ast.specs.Instructions.{nop, drop, select, local_get, local_set, local_tee, global_get, global_set, memory_size, memory_grow, memory_copy, memory_fill, i32_const, i64_const, numeric, load, store};
     ghost use Rattle.vr_wasm_run.specs.States.{Ready, Makes, effect_of, IsConversion};
     ghost use Rattle.vr_wasm_ast.specs.Opcodes.{numeric_of};
     ghost use Rattle.std.specs.Prelude.{◌≡◌, Some};
@@ -267,5 +274,72 @@ impl<'m> State<'m> {
         let operand = self.stacks.pop();
         self.stacks.push(convert(op, operand));
         Ok(1)
+    }
+
+    fn load(&mut self, op: u8, exponent: u32, offset: u32) -> Result<u64, Trap>
+        requires { Ready self.old (load op exponent offset) }
+        ensures { Makes self.old (effect_of self.old (load op exponent offset)) result self.new }
+    {
+        let Some(access) = load_access(op) else {
+            unreachable!()
+        };
+        let at = self.stacks.pop() + u64::from(offset);
+        let Some(number) = self.memory.load(at, width_of(access)) else {
+            return Err(Trap {
+                kind: MEMORY_OUT_OF_BOUNDS,
+            });
+        };
+        self.stacks.push(extended(access, number));
+        Ok(1)
+    }
+
+    fn store(&mut self, op: u8, exponent: u32, offset: u32) -> Result<u64, Trap>
+        requires { Ready self.old (store op exponent offset) }
+        ensures { Makes self.old (effect_of self.old (store op exponent offset)) result self.new }
+    {
+        let Some(access) = store_access(op) else {
+            unreachable!()
+        };
+        let value = self.stacks.pop();
+        let at = self.stacks.pop() + u64::from(offset);
+        if self.memory.store(at, width_of(access), value) {
+            Ok(1)
+        } else {
+            Err(Trap {
+                kind: MEMORY_OUT_OF_BOUNDS,
+            })
+        }
+    }
+}
+
+/// How many bytes are read or written.
+fn width_of(access: MemoryAccess) -> u8
+    requires { access.exponent ≤ 3 }
+    ensures power { result ≡ 2 ^ access.exponent }
+    ensures width { IsWidth result }
+{
+    match access.exponent {
+        0 => 1,
+        1 => 2,
+        2 => 4,
+        _ => 8,
+    }
+}
+
+/// The number that was read, in the width of its type.
+fn extended(access: MemoryAccess, number: u64) -> u64
+    requires narrow { IsNarrow access }
+    requires number { number < 2 ^ (8 * 2 ^ access.exponent) }
+    ensures { result ≡ extended access number }
+{
+    if !access.signed {
+        return number;
+    }
+    match (access.value, access.exponent) {
+        (ValType::I32, 0) => u64::from(i32::from((number as u8).cast_signed()).cast_unsigned()),
+        (ValType::I32, _) => u64::from(i32::from((number as u16).cast_signed()).cast_unsigned()),
+        (ValType::I64, 0) => i64::from((number as u8).cast_signed()).cast_unsigned(),
+        (ValType::I64, 1) => i64::from((number as u16).cast_signed()).cast_unsigned(),
+        (ValType::I64, _) => i64::from((number as u32).cast_signed()).cast_unsigned(),
     }
 }
