@@ -6,10 +6,10 @@ ghost use Rattle.vr_wasm_run.specs.Access.{IsNarrow};
 ghost use Rattle.vr_wasm_steps.specs.Effects.{extended};
 
 use vr_wasm_ast::{
-    MemoryAccess, NumericFamily, ValType, load_access, numeric_family, store_access,
+    Instr, MemoryAccess, NumericFamily, ValType, load_access, numeric_family, store_access,
 };
 use vr_wasm_num::{
-    MEMORY_OUT_OF_BOUNDS, Memory, TOO_MANY_VALUES, Trap, convert, i32_binary, i32_compare,
+    MEMORY_OUT_OF_BOUNDS, Memory, TOO_MANY_VALUES, Trap, UNREACHABLE, convert, i32_binary, i32_compare,
     i32_unary, i64_binary, i64_compare, i64_unary,
 };
 use vr_wasm_stacks::Stacks;
@@ -24,7 +24,7 @@ pub struct State<'m> {
 }
 
 impl<'m> State<'m> {
-    ghost use Rattle.vr_wasm_ast.specs.Instructions.{nop, drop, select, local_get, local_set, local_tee, global_get, global_set, memory_size, memory_grow, memory_copy, memory_fill, i32_const, i64_const, numeric, load, store};
+    ghost use Rattle.vr_wasm_ast.specs.Instructions.{nop, drop, select, local_get, local_set, local_tee, global_get, global_set, memory_size, memory_grow, memory_copy, memory_fill, i32_const, i64_const, numeric, load, store, instruction_of};
     ghost use Rattle.vr_wasm_run.specs.States.{Ready, Makes, effect_of, IsConversion};
     ghost use Rattle.vr_wasm_ast.specs.Opcodes.{numeric_of};
     ghost use Rattle.std.specs.Prelude.{◌≡◌, Some};
@@ -308,6 +308,36 @@ impl<'m> State<'m> {
             Err(Trap {
                 kind: MEMORY_OUT_OF_BOUNDS,
             })
+        }
+    }
+
+    /// An instruction that stays in its sequence: the cost of the row, or the trap.
+    pub fn apply(&mut self, instr: &Instr) -> Result<u64, Trap>
+        requires ready { Ready self.old (instruction_of instr.now) }
+        ensures { Makes self.old (effect_of self.old (instruction_of instr.now)) result self.new }
+    {
+        match instr {
+            Instr::Unreachable => Err(Trap { kind: UNREACHABLE }),
+            Instr::Nop => self.nop(),
+            Instr::Drop => self.discard(),
+            Instr::Select => self.select(),
+            Instr::LocalGet(at) => self.local_get(*at),
+            Instr::LocalSet(at) => self.local_set(*at),
+            Instr::LocalTee(at) => self.local_tee(*at),
+            Instr::GlobalGet(at) => self.global_get(*at),
+            Instr::GlobalSet(at) => self.global_set(*at),
+            Instr::Load(op, exponent, offset) => self.load(*op, *exponent, *offset),
+            Instr::Store(op, exponent, offset) => self.store(*op, *exponent, *offset),
+            Instr::MemorySize => self.memory_size(),
+            Instr::MemoryGrow => self.memory_grow(),
+            Instr::MemoryCopy => self.memory_copy(),
+            Instr::MemoryFill => self.memory_fill(),
+            Instr::I32Const(value) => self.i32_const(*value),
+            Instr::I64Const(value) => self.i64_const(*value),
+            Instr::Numeric(op) => self.numeric(*op),
+            Instr::Block(..) | Instr::Loop(..) | Instr::If(..) => unreachable!(),
+            Instr::Br(..) | Instr::BrIf(..) | Instr::BrTable(..) => unreachable!(),
+            Instr::Return | Instr::Call(..) | Instr::CallIndirect(..) => unreachable!(),
         }
     }
 }
