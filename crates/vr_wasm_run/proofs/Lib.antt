@@ -1,3 +1,4 @@
+pub mod ControlLemmas
 pub mod PlainLemmas
 pub mod RowLemmas
 pub mod ThroughLemmas

@@ -61,7 +61,7 @@ module _ {W : Type 0} (p : Program W) (k : Config W) where
     pub rooted : IsRooted z.layers z.locals
     pub code : z.code ≡ i ∷ rest
 
-  next-row : (z : Position) (i : Instr) (rest : List Instr) → IsAt z i rest
+  pub next-row : (z : Position) (i : Instr) (rest : List Instr) → IsAt z i rest
       → next p k ≡ next_of p k k.calls (through p k z.layers z.locals (row p k z.locals z.operands (instruction_of i) (plains (instructions_of rest) end)))
   unfolding walk
   next-row z i rest h =
