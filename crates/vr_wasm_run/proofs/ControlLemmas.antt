@@ -1,15 +1,14 @@
 -- The rows of blocks and branches at a position.
-use Rattle.std.proofs.Common.{ℕ, suc, ◌+◌, ◌≡◌, ◌≢◌, ◌≤◌, ◌<◌, ◌==◌, List, [], ◌∷◌, length, Option, Some, None, IsSome, Bool, true, false, if◌then◌else◌, nat_lt, unwrap_or, slice_get, refl, ap, sym, ◌∙◌, subst, arith}
-use Rattle.std.proofs.lemmas.Bool.{lt-ltb, le-ltb, eq-eqb, ne_eqb}
+use Rattle.std.proofs.Common.{ℕ, ◌≡◌, ◌≢◌, ◌≤◌, ◌<◌, List, [], ◌∷◌, Option, Some, None, IsSome, if◌then◌else◌, refl, ap, sym, ◌∙◌, subst}
+use Rattle.std.proofs.lemmas.Bool.{lt-ltb, le-ltb}
 use Rattle.vr_wasm_ast.specs.declared.instr.Instr.{Instr}
-use Rattle.vr_wasm_ast.specs.declared.tree.ValType.{ValType}
-use Rattle.vr_wasm_ast.specs.Instructions.{Instruction, Instructions, done, then as then_, block, loop, if_, br, br_if, br_table, return_, instruction_of, instructions_of}
+use Rattle.vr_wasm_ast.specs.Instructions.{Instruction, return_, instruction_of, instructions_of}
 use Rattle.vr_wasm_num.specs.declared.trap.TheConstants.{TOO_MANY_LABELS}
 use Rattle.vr_wasm_steps.specs.declared.limits.TheConstants.{MAX_LABELS}
-use Rattle.vr_wasm_steps.specs.Rows.{Program, Config, Outcome, stepped, finished, branching, returning, traps_with, no_row, goes, enters, arity, row, walk, Next, step, over, traps, lost, next_of, next}
-use Rattle.vr_wasm_steps.specs.Terms.{Term, end, label, plain, plains, unwind, labels}
-use Rattle.vr_wasm_stacks.specs.Positions.{Layer, Position, close, term_of, IsRooted, with_operands, with_code, entered, jump, jump_from, depth, leave, left}
-use Rattle.vr_wasm_run.proofs.ThroughLemmas.{next-through, through, through-stepped, through-traps, through-no_row, Moves, moves, stays, moved, branches, returns, ends}
+use Rattle.vr_wasm_steps.specs.Rows.{Program, Config, Outcome, finished, branching, returning, traps_with, goes, enters, row, walk, step, traps, lost, next_of, next}
+use Rattle.vr_wasm_steps.specs.Terms.{Term, end, label, plains, unwind, labels}
+use Rattle.vr_wasm_stacks.specs.Positions.{Layer, Position, close, term_of, IsRooted, with_operands, entered, jump, depth, leave, left}
+use Rattle.vr_wasm_run.proofs.ThroughLemmas.{next-through, through, through-stepped, through-traps, Moves, moves, stays, moved, branches, returns, ends}
 use Rattle.vr_wasm_run.proofs.RowLemmas.{IsAt, next-row}
 
 -- where a move goes, where it isn't lost

@@ -1,15 +1,16 @@
 -- An instruction that stays in its sequence is one row.
-use Rattle.std.proofs.Common.{ℕ, ◌+◌, ◌≡◌, ◌≢◌, ◌≤◌, ◌<◌, List, ◌∷◌, length, Result, Ok, Err, refl, ap, sym, ◌∙◌, subst, arith}
+use Rattle.std.proofs.Common.{ℕ, ◌≡◌, ◌≢◌, List, ◌∷◌, Result, Ok, Err, refl, ap, sym, ◌∙◌}
 use Rattle.vr_wasm_ast.specs.declared.instr.Instr.{Instr}
 use Rattle.vr_wasm_ast.specs.Instructions.{instruction_of}
 use Rattle.vr_wasm_num.specs.declared.trap.Trap.{Trap}
 use Rattle.vr_wasm_steps.specs.Effects.{Effect, leaves, trapped, stuck}
-use Rattle.vr_wasm_steps.specs.Rows.{Program, Config, Next, step, traps, lost, next}
-use Rattle.vr_wasm_stacks.specs.Positions.{Position, IsRooted, term_of, with_code}
+use Rattle.vr_wasm_steps.specs.Rows.{Program, step, traps, lost, next}
+use Rattle.vr_wasm_stacks.specs.Positions.{IsRooted, term_of, with_code}
 use Rattle.vr_wasm_run.specs.Configs.{config_of}
+use Rattle.vr_wasm_run.specs.Plain.{IsPlain}
 use Rattle.vr_wasm_run.specs.States.{store_of, effect_of, Makes, Ready, IsWithin}
 use Rattle.vr_wasm_run.specs.declared.state.State.{State}
-use Rattle.vr_wasm_run.proofs.RowLemmas.{IsPlain, IsAt, plain_step, plain_full, plain_trap, plain_rule}
+use Rattle.vr_wasm_run.proofs.RowLemmas.{IsAt, plain_step, plain_full, plain_trap, plain_rule}
 
 module _ {W : Type 0} (p : Program W) (s : State) (w : W) (calls : List ℕ) (i : Instr) (rest : List Instr)
     (rooted : IsRooted s.stacks.layers s.stacks.locals) (code : s.stacks.code ≡ i ∷ rest) (ordinary : IsPlain (instruction_of i)) (live : next p (config_of s w calls) ≢ lost) where

@@ -1,29 +1,17 @@
 -- The row of an instruction at a position.
-use Rattle.std.proofs.Common.{ℕ, suc, ◌+◌, ◌≡◌, ◌≢◌, ◌≤◌, ◌<◌, List, [], ◌∷◌, length, Option, Some, None, IsSome, Bool, true, false, if◌then◌else◌, nat_le, nat_lt, refl, ap, sym, ◌∙◌, subst, arith}
-use Rattle.std.proofs.lemmas.Bool.{le-leb, lt-leb, lt-ltb, le-ltb}
+use Rattle.std.proofs.Common.{ℕ, ◌+◌, ◌≡◌, ◌≢◌, ◌≤◌, ◌<◌, List, ◌∷◌, length, if◌then◌else◌, refl, ap, ◌∙◌}
+use Rattle.std.proofs.lemmas.Bool.{le-leb, lt-leb}
 use Rattle.vr_wasm_ast.specs.declared.instr.Instr.{Instr}
-use Rattle.vr_wasm_ast.specs.Instructions.{Instruction, Instructions, done, then as then_, unreachable, nop, block, loop, if_, br, br_if, br_table, return_, call, call_indirect, drop, select, local_get, local_set, local_tee, global_get, global_set, load, store, memory_size, memory_grow, memory_copy, memory_fill, i32_const, i64_const, numeric, instruction_of, instructions_of}
-use Rattle.vr_wasm_num.specs.declared.trap.TheConstants.{TOO_MANY_VALUES, TOO_MANY_LABELS}
-use Rattle.vr_wasm_steps.specs.declared.limits.TheConstants.{MAX_SLOTS, MAX_LABELS}
-use Rattle.vr_wasm_steps.specs.Effects.{Effect, leaves, trapped, stuck, effect}
-use Rattle.vr_wasm_steps.specs.Rows.{Program, Config, Outcome, stepped, finished, branching, returning, exited, traps_with, no_row, settles, row, walk, Next, step, over, exits_with, traps, lost, next_of, next}
+use Rattle.vr_wasm_ast.specs.Instructions.{Instruction, unreachable, nop, block, loop, if_, br, br_if, br_table, return_, call, call_indirect, drop, select, local_get, local_set, local_tee, global_get, global_set, load, store, memory_size, memory_grow, memory_copy, memory_fill, i32_const, i64_const, numeric, instruction_of, instructions_of}
+use Rattle.vr_wasm_num.specs.declared.trap.TheConstants.{TOO_MANY_VALUES}
+use Rattle.vr_wasm_steps.specs.declared.limits.TheConstants.{MAX_SLOTS}
+use Rattle.vr_wasm_steps.specs.Effects.{leaves, trapped, stuck, effect}
+use Rattle.vr_wasm_steps.specs.Rows.{Program, Config, stepped, traps_with, settles, row, walk, step, traps, lost, next_of, next}
 use Rattle.vr_wasm_steps.specs.Store.{Store}
-use Rattle.vr_wasm_steps.specs.Terms.{Term, end, plain, plains, unwind, slots, labels}
-use Rattle.vr_wasm_stacks.specs.Positions.{Position, close, term_of, IsRooted, jump, depth}
-use Rattle.vr_wasm_run.proofs.ThroughLemmas.{next-through, through, through-stepped, through-traps, through-no_row, Moves, moves, stays, branches, returns}
-
--- an instruction that stays in its sequence
-abbrev pub IsPlain : Instruction → Type 0
-IsPlain (block t body) = ⊥
-IsPlain (loop t body) = ⊥
-IsPlain (if_ t taken other) = ⊥
-IsPlain (br l) = ⊥
-IsPlain (br_if l) = ⊥
-IsPlain (br_table js l) = ⊥
-IsPlain return_ = ⊥
-IsPlain (call f) = ⊥
-IsPlain (call_indirect n) = ⊥
-IsPlain i = Unit {0}
+use Rattle.vr_wasm_steps.specs.Terms.{Term, end, plains, unwind, slots}
+use Rattle.vr_wasm_stacks.specs.Positions.{Position, term_of, IsRooted}
+use Rattle.vr_wasm_run.specs.Plain.{IsPlain}
+use Rattle.vr_wasm_run.proofs.ThroughLemmas.{next-through, through, through-stepped, through-traps, through-no_row}
 
 module _ {W : Type 0} (p : Program W) (k : Config W) where
   row-plain : (ls vs : List ℕ) (i : Instruction) (s : Term) → IsPlain i → row p k ls vs i s ≡ settles k vs s (effect k.store ls vs i)

@@ -1,13 +1,13 @@
 -- What a row at the innermost place of a term makes of the whole.
-use Rattle.std.proofs.Common.{ℕ, zero, suc, ◌+◌, ◌≡◌, ◌≢◌, ◌≤◌, List, [], ◌∷◌, ◌++◌, length, take, drop, map, Option, Some, None, IsSome, Bool, true, false, if◌then◌else◌, ◌==◌, nat_le, refl, ap, sym, ◌∙◌, subst, arith, inl, inr}
+use Rattle.std.proofs.Common.{ℕ, zero, suc, ◌≡◌, List, [], ◌∷◌, ◌++◌, length, take, Option, Some, None, if◌then◌else◌, nat_le, refl, ap, sym, ◌∙◌, inl, inr}
 use Rattle.std.proofs.lemmas.Bool.Decides.{leb_tells, eqb_tells}
 use Rattle.std.proofs.lemmas.List.{append-nil}
 use Rattle.vr_wasm_ast.specs.declared.instr.Instr.{Instr}
-use Rattle.vr_wasm_ast.specs.Instructions.{Instruction, Instructions, done, then as then_, instruction_of, instructions_of}
-use Rattle.vr_wasm_steps.specs.Rows.{Program, Config, Outcome, stepped, finished, branching, returning, exited, traps_with, no_row, goes, takes_along, in_label, in_frame, walk, Next, step, over, exits_with, traps, lost, next_of, next}
+use Rattle.vr_wasm_ast.specs.Instructions.{instruction_of, instructions_of}
+use Rattle.vr_wasm_steps.specs.Rows.{Program, Config, Outcome, stepped, finished, branching, returning, exited, traps_with, no_row, goes, takes_along, in_label, in_frame, walk, step, lost, next_of, next}
 use Rattle.vr_wasm_steps.specs.Store.{Store}
 use Rattle.vr_wasm_steps.specs.Terms.{Term, end, value, plain, label, frame, plains, unwind}
-use Rattle.vr_wasm_stacks.specs.Positions.{Layer, in_label as label_layer, in_frame as frame_layer, Position, close, term_of, IsRooted, jump_from, jump, depth, left, leave}
+use Rattle.vr_wasm_stacks.specs.Positions.{Layer, in_label as label_layer, in_frame as frame_layer, Position, close, term_of, IsRooted, jump_from, depth, left}
 
 pub unwind-append : (xs ys : List ℕ) (s : Term) → unwind (xs ++ ys) s ≡ unwind ys (unwind xs s)
 unwind-append [] ys s = refl

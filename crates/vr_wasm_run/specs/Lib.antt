@@ -1,3 +1,5 @@
 pub mod Access
 pub mod Configs
+pub mod Machines
+pub mod Plain
 pub mod States

@@ -1,5 +1,5 @@
 -- What a running program keeps, and what an instruction that stays in its sequence makes of it.
-use Rattle.std.specs.Prelude.{ℕ, ◌+◌, ◌≡◌, ◌≢◌, ◌≤◌, ◌<◌, List, length, Result, Ok, Err, Option, Some}
+use Rattle.std.specs.Prelude.{ℕ, ◌+◌, ◌≡◌, ◌≢◌, ◌≤◌, ◌<◌, length, Result, Ok, Err, Option, Some}
 use Rattle.vr_wasm_ast.specs.declared.opcodes.NumericFamily.{NumericFamily}
 use Rattle.vr_wasm_ast.specs.declared.opcodes.NumericFamily.TheVariants.{Conversion}
 use Rattle.vr_wasm_ast.specs.Instructions.{Instruction}
@@ -9,7 +9,7 @@ use Rattle.vr_wasm_steps.specs.declared.limits.TheConstants.{MAX_SLOTS}
 use Rattle.vr_wasm_steps.specs.Effects.{Effect, leaves, trapped, stuck, effect}
 use Rattle.vr_wasm_steps.specs.Store.{Store}
 use Rattle.vr_wasm_steps.specs.Terms.{slots}
-use Rattle.vr_wasm_stacks.specs.Positions.{Position, term_of}
+use Rattle.vr_wasm_stacks.specs.Positions.{term_of}
 use Rattle.vr_wasm_run.specs.declared.state.State.{State}
 
 abbrev pub store_of : State → Store

@@ -1,4 +1,6 @@
 //! Runs WebAssembly programs, step by step.
 #![tactic(auto)]
 
+mod functions;
+mod machine;
 mod state;

@@ -9,8 +9,8 @@ use vr_wasm_ast::{
     Instr, MemoryAccess, NumericFamily, ValType, load_access, numeric_family, store_access,
 };
 use vr_wasm_num::{
-    MEMORY_OUT_OF_BOUNDS, Memory, TOO_MANY_VALUES, Trap, UNREACHABLE, convert, i32_binary, i32_compare,
-    i32_unary, i64_binary, i64_compare, i64_unary,
+    MEMORY_OUT_OF_BOUNDS, Memory, TOO_MANY_VALUES, Trap, UNREACHABLE, convert, i32_binary,
+    i32_compare, i32_unary, i64_binary, i64_compare, i64_unary,
 };
 use vr_wasm_stacks::Stacks;
 

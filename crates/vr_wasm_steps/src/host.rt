@@ -34,7 +34,7 @@ pub trait Host {
 
     /// The number of the function of these names and this type, where there is one.
     fn find(&self, module: &[u8], name: &[u8], sort: &FuncType) -> Option<u32>
-        ensures { result ≡ finds module.now name.now sort.now };
+        ensures { result ≡ finds «module».now name.now sort.now };
 
     /// Calls a function by its number.
     fn call(&mut self, which: u32, args: &[u64], memory: &mut Memory) -> HostAnswer
