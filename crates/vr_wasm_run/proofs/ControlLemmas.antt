@@ -29,7 +29,7 @@ module _ {W : Type 0} (p : Program W) (k : Config W) where
     abbrev pub after : Term
     after = plains (instructions_of rest) end
 
-    row_is : (j : Instruction) (o : Outcome W) → instruction_of i ≡ j → row p k z.locals z.operands j after ≡ o → next p k ≡ next_of p k k.calls (through p k z.layers z.locals o)
+    pub row_is : (j : Instruction) (o : Outcome W) → instruction_of i ≡ j → row p k z.locals z.operands j after ≡ o → next p k ≡ next_of p k k.calls (through p k z.layers z.locals o)
     row_is j o e q =
         next-row p k z i rest here
         ∙ ap (λ x. next_of p k k.calls (through p k z.layers z.locals (row p k z.locals z.operands x (plains (instructions_of rest) end)))) e

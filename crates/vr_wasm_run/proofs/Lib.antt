@@ -1,4 +1,5 @@
 pub mod ControlLemmas
+pub mod OperandLemmas
 pub mod PlainLemmas
 pub mod RowLemmas
 pub mod ThroughLemmas

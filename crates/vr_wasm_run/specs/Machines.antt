@@ -1,5 +1,5 @@
 -- A machine as a program and a configuration, and what a step of it is.
-use Rattle.std.specs.Prelude.{ℕ, ◌≡◌, ◌≢◌, ◌≤◌, ◌<◌, List, ◌∷◌, option_to_list, map}
+use Rattle.std.specs.Prelude.{ℕ, ◌≡◌, ◌≢◌, ◌≤◌, ◌<◌, List, [], ◌∷◌, option_to_list, map}
 use Rattle.vr_wasm_ast.specs.declared.instr.Instr.{Instr}
 use Rattle.vr_wasm_ast.specs.Instructions.{instructions_of}
 use Rattle.vr_wasm_num.specs.Memory.{Contents}
@@ -36,6 +36,13 @@ pub record Stands {H W : Type 0} (world : H → W) (reply : W → ℕ → List �
   pub rooted : IsRooted m.state.stacks.layers m.state.stacks.locals
   pub within : IsWithin m.state
   pub code : m.state.stacks.code ≡ i ∷ rest
+  pub live : next (program_of reply m) (config world m) ≢ lost
+
+-- the machine is at the end of a block or a function, and some row applies
+pub record StandsAtEnd {H W : Type 0} (world : H → W) (reply : W → ℕ → List ℕ → Contents → Reply W) (m : Machine H) : Type 0 where
+  pub rooted : IsRooted m.state.stacks.layers m.state.stacks.locals
+  pub code : m.state.stacks.code ≡ []
+  pub inside : m.state.stacks.layers ≢ []
   pub live : next (program_of reply m) (config world m) ≢ lost
 
 -- the machine went on by one row, and the count of stops rises where the host stopped it

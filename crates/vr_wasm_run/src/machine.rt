@@ -1,8 +1,8 @@
-ghost use Rattle.std.specs.Prelude.{◌≡◌};
+ghost use Rattle.std.specs.Prelude.{◌≡◌, ◌==◌, if◌then◌else◌, slice_get, unwrap_or};
 ghost use Rattle.vr_wasm_ast.specs.Instructions.{instruction_of};
 ghost use Rattle.vr_wasm_ast.specs.declared.instr.Instr.TheVariants as tree;
 ghost use Rattle.vr_wasm_steps.specs.Rows.{arity};
-ghost use Rattle.vr_wasm_run.specs.Machines.{Stands, Steps};
+ghost use Rattle.vr_wasm_run.specs.Machines.{Stands, StandsAtEnd, Steps};
 ghost use Rattle.vr_wasm_run.specs.Plain.{IsPlain};
 
 use crate::functions::Callee;
@@ -67,6 +67,48 @@ impl<'m, H: Host> Machine<'m, H> {
         Progress::Went(1)
     }
 
+    fn repeat(
+        &mut self,
+        instr: &'m Instr,
+        rest: &'m [Instr],
+        value: Option<ValType>,
+        body: &'m [Instr],
+    ) -> Progress
+        requires stands { Stands H.world H.reply self.old instr.now rest.now }
+        requires repeats { instr.now ≡ tree.Loop value body.now }
+        ensures { Steps H.world H.stops H.reply self.old result self.new }
+    {
+        let _ = instr;
+        let _ = value;
+        if !self.state.stacks.has_label() {
+            return Progress::Trapped(TOO_MANY_LABELS);
+        }
+        self.state.stacks.enter_loop(rest, body);
+        Progress::Went(1)
+    }
+
+    fn choose(
+        &mut self,
+        instr: &'m Instr,
+        rest: &'m [Instr],
+        value: Option<ValType>,
+        taken: &'m [Instr],
+        other: &'m [Instr],
+    ) -> Progress
+        requires stands { Stands H.world H.reply self.old instr.now rest.now }
+        requires chooses { instr.now ≡ tree.If value taken.now other.now }
+        ensures { Steps H.world H.stops H.reply self.old result self.new }
+    {
+        let _ = instr;
+        let test = self.state.stacks.pop();
+        if !self.state.stacks.has_label() {
+            return Progress::Trapped(TOO_MANY_LABELS);
+        }
+        let body = chosen(test, taken, other);
+        self.state.stacks.enter(arity_of(value), rest, body);
+        Progress::Went(1)
+    }
+
     fn branch(&mut self, instr: &'m Instr, rest: &'m [Instr], label: u32) -> Progress
         requires stands { Stands H.world H.reply self.old instr.now rest.now }
         requires branch { instr.now ≡ tree.Br label }
@@ -75,6 +117,49 @@ impl<'m, H: Host> Machine<'m, H> {
         let _ = instr;
         let _ = rest;
         self.state.stacks.branch(label as usize);
+        Progress::Went(1)
+    }
+
+    fn branch_if(&mut self, instr: &'m Instr, rest: &'m [Instr], label: u32) -> Progress
+        requires stands { Stands H.world H.reply self.old instr.now rest.now }
+        requires branches { instr.now ≡ tree.BrIf label }
+        ensures { Steps H.world H.stops H.reply self.old result self.new }
+    {
+        let _ = instr;
+        let test = self.state.stacks.pop();
+        if test == 0 {
+            self.state.stacks.advance(rest);
+            return Progress::Went(1);
+        }
+        self.state.stacks.branch(label as usize);
+        Progress::Went(1)
+    }
+
+    fn branch_table(
+        &mut self,
+        instr: &'m Instr,
+        rest: &'m [Instr],
+        labels: &'m [u32],
+        default: u32,
+    ) -> Progress
+        requires stands { Stands H.world H.reply self.old instr.now rest.now }
+        requires branches { instr.now ≡ tree.BrTable labels.now default }
+        ensures { Steps H.world H.stops H.reply self.old result self.new }
+    {
+        let _ = instr;
+        let _ = rest;
+        let at = self.state.stacks.pop();
+        let label = label_at(labels, at, default);
+        self.state.stacks.branch(label as usize);
+        Progress::Went(1)
+    }
+
+    /// The end of a block or a function.
+    fn leave(&mut self) -> Progress
+        requires { StandsAtEnd H.world H.reply self.old }
+        ensures { Steps H.world H.stops H.reply self.old result self.new }
+    {
+        self.state.stacks.leave();
         Progress::Went(1)
     }
 
@@ -98,4 +183,18 @@ fn arity_of(value: Option<ValType>) -> u32
         Some(_) => 1,
         None => 0,
     }
+}
+
+/// The instructions that an `if` goes on with.
+fn chosen<'m>(test: u64, taken: &'m [Instr], other: &'m [Instr]) -> &'m [Instr]
+    ensures { result.now ≡ (if test == 0 then other.now else taken.now) }
+{
+    if test == 0 { other } else { taken }
+}
+
+/// The label at this place, or the default one past the end.
+fn label_at(labels: &[u32], at: u64, default: u32) -> u32
+    ensures { result ≡ unwrap_or (slice_get labels.now at) default }
+{
+    labels.get(at as usize).copied().unwrap_or(default)
 }
