@@ -1,4 +1,5 @@
 pub mod Access
+pub mod Calls
 pub mod Configs
 pub mod Machines
 pub mod Plain

@@ -1,6 +1,7 @@
 //! Runs WebAssembly programs, step by step.
 #![tactic(auto)]
 
+mod calls;
 mod functions;
 mod machine;
 mod state;
