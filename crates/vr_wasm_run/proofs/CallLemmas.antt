@@ -1,10 +1,10 @@
 -- The row of a call of a function of the module, at a position.
-use Rattle.std.proofs.Common.{ℕ, ◌+◌, ◌≡◌, ◌≢◌, ◌≤◌, ◌<◌, List, [], ◌∷◌, ◌++◌, length, take, drop, reverse, replicate, slice_get, Option, Some, None, IsSome, Bool, true, false, if◌then◌else◌, nat_lt, nat_le, refl, ap, sym, ◌∙◌, subst, inl, inr, arith}
-use Rattle.std.proofs.lemmas.Bool.{le-leb, lt-leb}
+use Rattle.std.proofs.Common.{ℕ, ◌+◌, ◌≡◌, ◌≢◌, ◌≤◌, List, [], ◌∷◌, ◌++◌, length, take, drop, reverse, replicate, slice_get, Option, Some, None, IsSome, Bool, true, false, if◌then◌else◌, nat_lt, nat_le, refl, ap, sym, ◌∙◌, inl, inr, arith}
+use Rattle.std.proofs.lemmas.Bool.{le-leb}
 use Rattle.std.proofs.lemmas.Bool.Decides.{leb_tells}
 use Rattle.vr_wasm_ast.specs.declared.instr.Instr.{Instr}
 use Rattle.vr_wasm_ast.specs.declared.tree.FuncType.{FuncType}
-use Rattle.vr_wasm_ast.specs.Instructions.{Instruction, Instructions, call, instruction_of, instructions_of}
+use Rattle.vr_wasm_ast.specs.Instructions.{Instruction, call, instruction_of, instructions_of}
 use Rattle.vr_wasm_num.specs.declared.trap.TheConstants.{TOO_MANY_FRAMES, TOO_MANY_VALUES, TOO_MANY_LABELS}
 use Rattle.vr_wasm_steps.specs.declared.limits.TheConstants.{MAX_FRAMES, MAX_SLOTS, MAX_LABELS}
 use Rattle.vr_wasm_steps.specs.Rows.{Program, Config, Outcome, traps_with, no_row, goes, Callee, own, calls_own, called as callee_called, row, step, traps, lost, next_of, next}
@@ -12,7 +12,7 @@ use Rattle.vr_wasm_steps.specs.Terms.{Term, end, label, frame, plains, unwind, f
 use Rattle.vr_wasm_stacks.specs.Positions.{Layer, in_label, in_frame, Position, close, term_of, with_operands, called}
 use Rattle.vr_wasm_stacks.proofs.CountLemmas.{frames-unwind, slots_with}
 use Rattle.vr_wasm_run.specs.Calls.{passed}
-use Rattle.vr_wasm_run.proofs.ThroughLemmas.{through, through-stepped, through-traps, through-no_row, moved}
+use Rattle.vr_wasm_run.proofs.ThroughLemmas.{through-stepped, through-traps, through-no_row, moved}
 use Rattle.vr_wasm_run.proofs.RowLemmas.{IsAt}
 use Rattle.vr_wasm_run.proofs.ControlLemmas.{row_is}
 use Rattle.vr_wasm_run.proofs.OperandLemmas.{labels_with}
@@ -44,9 +44,9 @@ same_le : (a b c d : ℕ) → (a ≤ b → c ≤ d) → (c ≤ d → a ≤ b) �
 same_le a b c d f g = elim (leb_tells a b) [
   | inl t ↦ t.0 ∙ sym (le-leb c d (f t.1))
   | inr t ↦ elim (leb_tells c d) [
-      | inl u ↦ absurd (omega (arith, t.1, g u.1))
-      | inr u ↦ t.0 ∙ sym u.0
-    ]
+    | inl u ↦ absurd (omega (arith, t.1, g u.1))
+    | inr u ↦ t.0 ∙ sym u.0
+  ]
 ]
 
 -- ---- rows

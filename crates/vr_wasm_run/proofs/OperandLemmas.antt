@@ -1,9 +1,9 @@
 -- The rows of instructions that take an operand, and of loops and ends, at a position.
-use Rattle.std.proofs.Common.{ℕ, zero, suc, ◌+◌, ◌≡◌, ◌≢◌, ◌≤◌, ◌<◌, ◌==◌, List, [], ◌∷◌, length, take, slice_get, Option, Some, None, IsSome, unwrap_or, Bool, true, false, if◌then◌else◌, refl, ap, sym, ◌∙◌, subst, arith}
+use Rattle.std.proofs.Common.{ℕ, ◌+◌, ◌≡◌, ◌≢◌, ◌≤◌, ◌<◌, ◌==◌, List, [], ◌∷◌, length, take, slice_get, Option, Some, IsSome, unwrap_or, Bool, true, false, if◌then◌else◌, refl, ap, sym, ◌∙◌, subst, arith}
 use Rattle.vr_wasm_ast.specs.declared.instr.Instr.{Instr}
 use Rattle.vr_wasm_ast.specs.declared.instr.Instr.TheVariants as tree
 use Rattle.vr_wasm_ast.specs.declared.tree.ValType.{ValType}
-use Rattle.vr_wasm_ast.specs.Instructions.{Instruction, Instructions, done, then as then_, loop, if_, br_if, br_table, instruction_of, instructions_of}
+use Rattle.vr_wasm_ast.specs.Instructions.{Instruction, done, then as then_, loop, if_, br_if, br_table, instruction_of, instructions_of}
 use Rattle.vr_wasm_ast.proofs.InstructionLemmas.{instruction_of-Loop, instruction_of-If, instruction_of-BrIf, instruction_of-BrTable}
 use Rattle.vr_wasm_num.specs.declared.trap.TheConstants.{TOO_MANY_LABELS}
 use Rattle.vr_wasm_steps.specs.declared.limits.TheConstants.{MAX_LABELS}
@@ -11,7 +11,7 @@ use Rattle.vr_wasm_steps.specs.Rows.{Program, Config, branching, no_row, goes, e
 use Rattle.vr_wasm_steps.specs.Terms.{Term, end, label, frame, plains, unwind, labels}
 use Rattle.vr_wasm_stacks.specs.Positions.{Layer, in_label, in_frame, Position, close, term_of, IsRooted, with_operands, with_code, entered, jump, leave}
 use Rattle.vr_wasm_stacks.proofs.CountLemmas.{labels-unwind}
-use Rattle.vr_wasm_run.proofs.ThroughLemmas.{through, through-stepped, through-no_row, moved}
+use Rattle.vr_wasm_run.proofs.ThroughLemmas.{through-stepped, through-no_row, moved}
 use Rattle.vr_wasm_run.proofs.RowLemmas.{IsAt}
 use Rattle.vr_wasm_run.proofs.ControlLemmas.{row_is, enter_step, enter_full, branch_step, branch_some, leave_step, leave_some}
 

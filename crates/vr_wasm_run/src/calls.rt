@@ -38,7 +38,7 @@ pub fn enter_function<'m>(
     ensures passed { result ≡ passed (term_of stacks.old) locals }
     ensures entered { result ≡ None → stacks.new
         ≡ called stacks.old (length sort.now.params) locals (length sort.now.results)
-            rest.now body.now }
+        rest.now body.now }
 {
     let _ = stacks.code();
     let kind = passed(stacks, locals);

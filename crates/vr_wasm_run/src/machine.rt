@@ -1,10 +1,11 @@
-ghost use Rattle.std.specs.Prelude.{◌≡◌, ◌==◌, if◌then◌else◌, slice_get, unwrap_or};
-ghost use Rattle.vr_wasm_ast.specs.Instructions.{instruction_of};
+ghost use Rattle.std.specs.Prelude.{◌≡◌, ◌≤◌, ◌==◌, if◌then◌else◌, length, slice_get, unwrap_or, Some};
+ghost use Rattle.vr_wasm_ast.specs.Instructions.{instruction_of, instructions_of};
 ghost use Rattle.vr_wasm_ast.specs.declared.instr.Instr.TheVariants as tree;
-ghost use Rattle.vr_wasm_steps.specs.Rows.{arity};
-ghost use Rattle.vr_wasm_run.specs.Machines.{Stands, StandsAtEnd, Steps};
+ghost use Rattle.vr_wasm_steps.specs.Rows.{arity, own};
+ghost use Rattle.vr_wasm_run.specs.Machines.{Stands, StandsAtEnd, Steps, program_of};
 ghost use Rattle.vr_wasm_run.specs.Plain.{IsPlain};
 
+use crate::calls::enter_function;
 use crate::functions::Callee;
 use crate::state::State;
 use vr_wasm_ast::{FuncType, Instr, ValType};
@@ -161,6 +162,31 @@ impl<'m, H: Host> Machine<'m, H> {
     {
         self.state.stacks.leave();
         Progress::Went(1)
+    }
+
+    /// A call of a function of the module.
+    fn call_own(
+        &mut self,
+        instr: &'m Instr,
+        rest: &'m [Instr],
+        at: u32,
+        sort: &'m FuncType,
+        locals: u32,
+        body: &'m [Instr],
+    ) -> Progress
+        requires stands { Stands H.world H.reply self.old instr.now rest.now }
+        requires calls { instr.now ≡ tree.Call at }
+        requires found { slice_get (program_of H.reply self.old).functions at
+            ≡ Some (own sort.now locals (instructions_of body.now)) }
+        requires results { length sort.now.results ≤ 1 }
+        ensures { Steps H.world H.stops H.reply self.old result self.new }
+    {
+        let _ = instr;
+        let _ = at;
+        match enter_function(&mut self.state.stacks, sort, locals, rest, body) {
+            Some(kind) => Progress::Trapped(kind),
+            None => Progress::Went(1),
+        }
     }
 
     fn leave_function(&mut self, instr: &'m Instr, rest: &'m [Instr]) -> Progress

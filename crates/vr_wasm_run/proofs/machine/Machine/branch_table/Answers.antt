@@ -1,4 +1,4 @@
-use Rattle.std.proofs.Common.{refl, ap, sym, ◌∙◌, ◌≡◌, Some, IsSome, subst, arith}
+use Rattle.std.proofs.Common.{refl, ap, sym, ◌∙◌, IsSome, subst, arith}
 use Rattle.vr_wasm_stacks.specs.Positions.{jump}
 use Rattle.vr_wasm_run.specs.Machines.{program_of, config}
 use Rattle.vr_wasm_run.proofs.RowLemmas.{IsAt}

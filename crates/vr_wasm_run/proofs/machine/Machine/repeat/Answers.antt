@@ -1,4 +1,4 @@
-use Rattle.std.proofs.Common.{refl, ap, sym, ◌∙◌, ◌<◌, ◌≤◌, take, arith}
+use Rattle.std.proofs.Common.{refl, ap, sym, ◌∙◌, ◌<◌, ◌≤◌, arith}
 use Rattle.std.proofs.lemmas.Bool.Decides.{nat_tests}
 use Rattle.vr_wasm_steps.specs.declared.limits.TheConstants.{MAX_LABELS}
 use Rattle.vr_wasm_steps.specs.Rows.{step}
