@@ -2,6 +2,6 @@
 #![tactic(auto)]
 
 mod calls;
-mod functions;
-mod machine;
+mod progress;
+mod running;
 mod state;

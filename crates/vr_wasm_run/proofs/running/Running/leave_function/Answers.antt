@@ -4,7 +4,7 @@ use Rattle.vr_wasm_ast.proofs.InstructionLemmas.{instruction_of-Return}
 use Rattle.vr_wasm_run.specs.Machines.{program_of, config}
 use Rattle.vr_wasm_run.proofs.RowLemmas.{IsAt}
 use Rattle.vr_wasm_run.proofs.ControlLemmas.{return_step, return_some}
-use Rattle.vr_wasm_run.proofs.machine.Machine.leave_function.Goals as goal
+use Rattle.vr_wasm_run.proofs.running.Running.leave_function.Goals as goal
 
 pub leave_function-requires : goal.leave_function-requires
 leave_function-requires g c =

@@ -8,7 +8,7 @@ use Rattle.vr_wasm_run.specs.Machines.{program_of, config}
 use Rattle.vr_wasm_run.proofs.RowLemmas.{IsAt}
 use Rattle.vr_wasm_run.proofs.ThroughLemmas.{moved}
 use Rattle.vr_wasm_run.proofs.OperandLemmas.{loop_step, loop_full}
-use Rattle.vr_wasm_run.proofs.machine.Machine.repeat.Goals as goal
+use Rattle.vr_wasm_run.proofs.running.Running.repeat.Goals as goal
 
 pub returns-then-not-has_label : goal.returns-then-not-has_label
 returns-then-not-has_label g c =

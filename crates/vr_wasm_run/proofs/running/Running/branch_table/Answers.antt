@@ -3,7 +3,7 @@ use Rattle.vr_wasm_stacks.specs.Positions.{jump}
 use Rattle.vr_wasm_run.specs.Machines.{program_of, config}
 use Rattle.vr_wasm_run.proofs.RowLemmas.{IsAt}
 use Rattle.vr_wasm_run.proofs.OperandLemmas.{br_table_operand, br_table_some, br_table_step}
-use Rattle.vr_wasm_run.proofs.machine.Machine.branch_table.Goals as goal
+use Rattle.vr_wasm_run.proofs.running.Running.branch_table.Goals as goal
 
 pub pop-at-requires : goal.pop-at-requires
 pop-at-requires g c =

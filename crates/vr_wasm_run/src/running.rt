@@ -6,34 +6,25 @@ ghost use Rattle.vr_wasm_run.specs.Machines.{Stands, StandsAtEnd, Steps, program
 ghost use Rattle.vr_wasm_run.specs.Plain.{IsPlain};
 
 use crate::calls::enter_function;
-use crate::functions::Callee;
+use crate::progress::Progress;
 use crate::state::State;
 use vr_wasm_ast::{FuncType, Instr, ValType};
+use vr_wasm_link::Callee;
 use vr_wasm_num::TOO_MANY_LABELS;
 use vr_wasm_steps::Host;
 
-/// What one step came to.
-#[derive(Clone, Copy)]
-pub enum Progress {
-    /// The row cost so many steps.
-    Went(u64),
-    Exited(u32),
-    Trapped(u8),
-    /// The host ran out of memory.
-    Stopped,
-}
-
-/// A running program.
-pub struct Machine<'m, H> {
+/// A running program, and its host.
+pub struct Running<'m, H> {
     pub state: State<'m>,
     pub types: &'m [FuncType],
     pub functions: Vec<Callee<'m>>,
-    /// The function that is still to be called from outside.
+    /// The functions that are still to be called from outside, in this order.
+    pub first: Option<u32>,
     pub main: Option<u32>,
     pub host: H,
 }
 
-impl<'m, H: Host> Machine<'m, H> {
+impl<'m, H: Host> Running<'m, H> {
     /// An instruction that stays in its sequence.
     fn plain(&mut self, instr: &'m Instr, rest: &'m [Instr]) -> Progress
         requires stands { Stands H.world H.reply self.old instr.now rest.now }

@@ -10,7 +10,7 @@ use Rattle.vr_wasm_run.specs.Machines.{program_of, config}
 use Rattle.vr_wasm_run.proofs.RowLemmas.{IsAt}
 use Rattle.vr_wasm_run.proofs.ThroughLemmas.{moved}
 use Rattle.vr_wasm_run.proofs.ControlLemmas.{enter_step, enter_full}
-use Rattle.vr_wasm_run.proofs.machine.Machine.block.Goals as goal
+use Rattle.vr_wasm_run.proofs.running.Running.block.Goals as goal
 
 pub returns-then-not-has_label : goal.returns-then-not-has_label
 returns-then-not-has_label g c =

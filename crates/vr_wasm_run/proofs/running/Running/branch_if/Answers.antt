@@ -5,7 +5,7 @@ use Rattle.vr_wasm_run.specs.Machines.{program_of, config}
 use Rattle.vr_wasm_run.proofs.RowLemmas.{IsAt}
 use Rattle.vr_wasm_run.proofs.ThroughLemmas.{moved}
 use Rattle.vr_wasm_run.proofs.OperandLemmas.{br_if_operand, br_if_on, br_if_some, br_if_step}
-use Rattle.vr_wasm_run.proofs.machine.Machine.branch_if.Goals as goal
+use Rattle.vr_wasm_run.proofs.running.Running.branch_if.Goals as goal
 
 pub pop-test-requires : goal.pop-test-requires
 pop-test-requires g c =

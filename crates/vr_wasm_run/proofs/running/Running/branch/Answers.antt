@@ -4,7 +4,7 @@ use Rattle.vr_wasm_ast.proofs.InstructionLemmas.{instruction_of-Br}
 use Rattle.vr_wasm_run.specs.Machines.{program_of, config}
 use Rattle.vr_wasm_run.proofs.RowLemmas.{IsAt}
 use Rattle.vr_wasm_run.proofs.ControlLemmas.{branch_step, branch_some}
-use Rattle.vr_wasm_run.proofs.machine.Machine.branch.Goals as goal
+use Rattle.vr_wasm_run.proofs.running.Running.branch.Goals as goal
 
 pub branch-self-requires : goal.branch-self-requires
 branch-self-requires g c =

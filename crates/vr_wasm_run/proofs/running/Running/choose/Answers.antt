@@ -8,7 +8,7 @@ use Rattle.vr_wasm_run.specs.Machines.{program_of, config}
 use Rattle.vr_wasm_run.proofs.RowLemmas.{IsAt}
 use Rattle.vr_wasm_run.proofs.ThroughLemmas.{moved}
 use Rattle.vr_wasm_run.proofs.OperandLemmas.{labels_popped, if_operand, if_step, if_full}
-use Rattle.vr_wasm_run.proofs.machine.Machine.choose.Goals as goal
+use Rattle.vr_wasm_run.proofs.running.Running.choose.Goals as goal
 
 pub pop-test-requires : goal.pop-test-requires
 pop-test-requires g c =

@@ -7,7 +7,7 @@ use Rattle.vr_wasm_run.proofs.RowLemmas.{IsAt}
 use Rattle.vr_wasm_run.proofs.ThroughLemmas.{moved}
 use Rattle.vr_wasm_run.proofs.ProgressLemmas.{went_on, trapped_itself, as_many}
 use Rattle.vr_wasm_run.proofs.CallLemmas.{call_params, call_full, call_step}
-use Rattle.vr_wasm_run.proofs.machine.Machine.call_own.Goals as goal
+use Rattle.vr_wasm_run.proofs.running.Running.call_own.Goals as goal
 
 pub enter_function-requires-clause-params : goal.enter_function-requires-clause-params
 enter_function-requires-clause-params g c =
