@@ -1,7 +1,9 @@
 pub mod CallLemmas
 pub mod ControlLemmas
+pub mod FunctionLemmas
 pub mod OperandLemmas
 pub mod PlainLemmas
 pub mod ProgressLemmas
+pub mod ReplyLemmas
 pub mod RowLemmas
 pub mod ThroughLemmas

@@ -38,7 +38,7 @@ labels_with z vs =
 pub labels_popped : (z z' : Position) (v : ℕ) → z ≡ with_operands z' (v ∷ z'.operands) → labels (term_of z) ≡ labels (term_of z')
 labels_popped z z' v split = ap (λ x. labels (term_of x)) split ∙ labels_with z' (v ∷ z'.operands)
 
-rest_of : (z z' : Position) (v : ℕ) → z ≡ with_operands z' (v ∷ z'.operands) → with_operands z z'.operands ≡ z'
+pub rest_of : (z z' : Position) (v : ℕ) → z ≡ with_operands z' (v ∷ z'.operands) → with_operands z z'.operands ≡ z'
 rest_of z z' v split = ap (λ x. with_operands x z'.operands) split
 
 chosen : (b : Bool) (xs ys : List Instr) → (if b then instructions_of xs else instructions_of ys) ≡ instructions_of (if b then xs else ys)
@@ -57,7 +57,7 @@ module _ {W : Type 0} (p : Program W) (k : Config W) (z : Position) (i : Instr) 
   goes_step j vs e q = row_is p k z i rest here j (goes k z.locals (unwind vs after)) e q ∙ through-stepped p k z.layers z.locals z.locals 1 k.store k.world (unwind vs after)
 
   -- an instruction that has no row without an operand finds one
-  wants : (j : Instruction) (vs : List ℕ) → z.operands ≡ vs → instruction_of i ≡ j → row p k z.locals [] j after ≡ no_row → next p k ≢ lost → 0 < length vs
+  pub wants : (j : Instruction) (vs : List ℕ) → z.operands ≡ vs → instruction_of i ≡ j → row p k z.locals [] j after ≡ no_row → next p k ≢ lost → 0 < length vs
   wants j [] same e q live = absurd (live (
       row_is p k z i rest here j no_row e (ap (λ x. row p k z.locals x j after) same ∙ q)
       ∙ ap (next_of p k k.calls) (through-no_row p k z.layers z.locals)))

@@ -1,16 +1,20 @@
-ghost use Rattle.std.specs.Prelude.{◌≡◌, ◌≤◌, ◌==◌, if◌then◌else◌, length, slice_get, unwrap_or, Some};
-ghost use Rattle.vr_wasm_ast.specs.Instructions.{instruction_of, instructions_of};
+ghost use Rattle.std.specs.Prelude.{◌≡◌, ◌==◌, if◌then◌else◌, slice_get, unwrap_or, Some};
+ghost use Rattle.vr_wasm_ast.specs.Instructions.{instruction_of};
 ghost use Rattle.vr_wasm_ast.specs.declared.instr.Instr.TheVariants as tree;
-ghost use Rattle.vr_wasm_steps.specs.Rows.{arity, own};
+ghost use Rattle.vr_wasm_steps.specs.Rows.{arity, type_of};
+ghost use Rattle.vr_wasm_link.specs.Functions.{function_of};
 ghost use Rattle.vr_wasm_run.specs.Machines.{Stands, StandsAtEnd, Steps, program_of};
+ghost use Rattle.vr_wasm_run.specs.Calls.{AreCallable};
 ghost use Rattle.vr_wasm_run.specs.Plain.{IsPlain};
 
-use crate::calls::enter_function;
+use crate::calls::invoke;
 use crate::progress::Progress;
 use crate::state::State;
 use vr_wasm_ast::{FuncType, Instr, ValType};
 use vr_wasm_link::Callee;
-use vr_wasm_num::TOO_MANY_LABELS;
+use vr_wasm_num::{
+    CALL_TYPE_MISMATCH, TABLE_OUT_OF_BOUNDS, TOO_MANY_LABELS, UNINITIALISED_ELEMENT,
+};
 use vr_wasm_steps::Host;
 
 /// A running program, and its host.
@@ -155,29 +159,35 @@ impl<'m, H: Host> Running<'m, H> {
         Progress::Went(1)
     }
 
-    /// A call of a function of the module.
-    fn call_own(
-        &mut self,
-        instr: &'m Instr,
-        rest: &'m [Instr],
-        at: u32,
-        sort: &'m FuncType,
-        locals: u32,
-        body: &'m [Instr],
-    ) -> Progress
+    fn call(&mut self, instr: &'m Instr, rest: &'m [Instr], at: u32) -> Progress
         requires stands { Stands H.world H.reply self.old instr.now rest.now }
         requires calls { instr.now ≡ tree.Call at }
-        requires found { slice_get (program_of H.reply self.old).functions at
-            ≡ Some (own sort.now locals (instructions_of body.now)) }
-        requires results { length sort.now.results ≤ 1 }
+        requires callable { AreCallable H.finds (program_of H.reply self.old).functions }
         ensures { Steps H.world H.stops H.reply self.old result self.new }
     {
         let _ = instr;
-        let _ = at;
-        match enter_function(&mut self.state.stacks, sort, locals, rest, body) {
-            Some(kind) => Progress::Trapped(kind),
-            None => Progress::Went(1),
+        let callee = self.functions[at as usize];
+        invoke(&mut self.host, &mut self.state, callee, rest)
+    }
+
+    fn call_indirect(&mut self, instr: &'m Instr, rest: &'m [Instr], wanted: u32) -> Progress
+        requires stands { Stands H.world H.reply self.old instr.now rest.now }
+        requires calls { instr.now ≡ tree.CallIndirect wanted }
+        requires callable { AreCallable H.finds (program_of H.reply self.old).functions }
+        ensures { Steps H.world H.stops H.reply self.old result self.new }
+    {
+        let _ = instr;
+        let at = self.state.stacks.pop();
+        let place = match element(&self.state.table, at) {
+            None => return Progress::Trapped(TABLE_OUT_OF_BOUNDS),
+            Some(None) => return Progress::Trapped(UNINITIALISED_ELEMENT),
+            Some(Some(place)) => place,
+        };
+        let callee = self.functions[place as usize];
+        if !sort_of(callee).equals(&self.types[wanted as usize]) {
+            return Progress::Trapped(CALL_TYPE_MISMATCH);
         }
+        invoke(&mut self.host, &mut self.state, callee, rest)
     }
 
     fn leave_function(&mut self, instr: &'m Instr, rest: &'m [Instr]) -> Progress
@@ -189,6 +199,14 @@ impl<'m, H: Host> Running<'m, H> {
         let _ = rest;
         self.state.stacks.leave_function();
         Progress::Went(1)
+    }
+}
+
+fn sort_of<'m>(callee: Callee<'m>) -> &'m FuncType
+    ensures { result.now ≡ type_of (function_of callee.entry) }
+{
+    match callee {
+        Callee::Own { sort, .. } | Callee::Outside { sort, .. } => sort,
     }
 }
 
@@ -207,6 +225,13 @@ fn chosen<'m>(test: u64, taken: &'m [Instr], other: &'m [Instr]) -> &'m [Instr]
     ensures { result.now ≡ (if test == 0 then other.now else taken.now) }
 {
     if test == 0 { other } else { taken }
+}
+
+/// What the table has at this place, where it has one.
+fn element(table: &[Option<u32>], at: u64) -> Option<Option<u32>>
+    ensures { slice_get table.now at ≡ result }
+{
+    table.get(at as usize).copied()
 }
 
 /// The label at this place, or the default one past the end.

@@ -69,6 +69,19 @@ impl<'m> Stacks<'m> {
         self.controls.is_empty()
     }
 
+    /// Leaves everything: the operands too.
+    pub fn clear(&mut self)
+        ensures { self.new ≡ outside }
+    {
+        let code: &'m [Instr] = &[];
+        self.code = code;
+        self.values.truncate(0);
+        self.controls.truncate(0);
+        self.frames = 0;
+        self.frame = 0;
+        self.base = 0;
+    }
+
     /// Goes on to these instructions.
     pub fn advance(&mut self, rest: &'m [Instr])
         ensures { self.new ≡ with_code self.old rest.now }
