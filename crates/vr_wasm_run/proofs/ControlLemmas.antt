@@ -71,7 +71,7 @@ module _ {W : Type 0} (p : Program W) (k : Config W) where
     return_some e live = somewhere _ _ (returns p k z.layers z.locals z.operands) (row_is return_ (returning z.operands) e refl) live
 
   -- the end of a block or a function
-  ended : (z : Position) → k.term ≡ term_of z → IsRooted z.layers z.locals → z.code ≡ [] → next p k ≡ next_of p k k.calls (through p k z.layers z.locals (finished z.operands))
+  pub ended : (z : Position) → k.term ≡ term_of z → IsRooted z.layers z.locals → z.code ≡ [] → next p k ≡ next_of p k k.calls (through p k z.layers z.locals (finished z.operands))
   unfolding walk
   ended z e r c =
       next-through p k z e r ∙ ap (λ x. next_of p k k.calls (through p k z.layers z.locals (walk p k z.locals z.operands (plains (instructions_of x) end)))) c

@@ -2,6 +2,7 @@ pub mod CallLemmas
 pub mod ControlLemmas
 pub mod FunctionLemmas
 pub mod OperandLemmas
+pub mod OutsideLemmas
 pub mod PlainLemmas
 pub mod ProgressLemmas
 pub mod ReplyLemmas

@@ -1,12 +1,13 @@
 -- A machine as a program and a configuration, and what a step of it is.
-use Rattle.std.specs.Prelude.{ℕ, ◌≡◌, ◌≢◌, ◌≤◌, ◌<◌, List, ◌∷◌, ◌++◌, [], option_to_list, map}
+use Rattle.std.specs.Prelude.{ℕ, ◌≡◌, ◌≢◌, ◌≤◌, ◌<◌, List, ◌∷◌, ◌++◌, [], Option, option_to_list, map}
 use Rattle.vr_wasm_ast.specs.declared.instr.Instr.{Instr}
-use Rattle.vr_wasm_ast.specs.Instructions.{instructions_of}
+use Rattle.vr_wasm_ast.specs.declared.tree.FuncType.{FuncType}
 use Rattle.vr_wasm_num.specs.Memory.{Contents}
 use Rattle.vr_wasm_steps.specs.Hosts.{Reply}
 use Rattle.vr_wasm_link.specs.Functions.{function_of}
 use Rattle.vr_wasm_steps.specs.Rows.{Program, Config, Next, step, over, exits_with, traps, lost, next}
 use Rattle.vr_wasm_stacks.specs.Positions.{IsRooted}
+use Rattle.vr_wasm_run.specs.Calls.{AreCallable}
 use Rattle.vr_wasm_run.specs.Configs.{config_of}
 use Rattle.vr_wasm_run.specs.States.{IsWithin}
 use Rattle.vr_wasm_run.specs.declared.running.Running.{Running}
@@ -17,8 +18,11 @@ abbrev pub program_of : {H W : Type 0} → (W → ℕ → List ℕ → Contents 
 program_of reply m = record { types = m.types.now; functions = map function_of m.functions.items; reply = reply }
 
 -- the functions that are still to be called from outside
+abbrev pub waiting : Option ℕ → Option ℕ → List ℕ
+waiting first main = option_to_list first ++ option_to_list main
+
 abbrev pub pending : {H : Type 0} → Running H → List ℕ
-pending m = option_to_list m.first ++ option_to_list m.main
+pending m = waiting m.first m.main
 
 abbrev pub config : {H W : Type 0} → (H → W) → Running H → Config W
 config world m = config_of m.state (world m.host) (pending m)
@@ -43,6 +47,11 @@ pub record StandsAtEnd {H W : Type 0} (world : H → W) (reply : W → ℕ → L
   pub rooted : IsRooted m.state.stacks.layers m.state.stacks.locals
   pub code : m.state.stacks.code ≡ []
   pub inside : m.state.stacks.layers ≢ []
+  pub live : next (program_of reply m) (config world m) ≢ lost
+
+-- each function can be called, and some row applies or the program has ended
+pub record IsLive {H W : Type 0} (finds : List ℕ → List ℕ → FuncType → Option ℕ) (world : H → W) (reply : W → ℕ → List ℕ → Contents → Reply W) (m : Running H) : Type 0 where
+  pub callable : AreCallable finds (program_of reply m).functions
   pub live : next (program_of reply m) (config world m) ≢ lost
 
 -- the machine went on by one row, and the count of stops rises where the host stopped it

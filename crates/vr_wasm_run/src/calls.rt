@@ -1,11 +1,11 @@
 //! Calls of the module's own functions and of the host's.
 
-ghost use Rattle.std.specs.Prelude.{◌≡◌, ◌+◌, ◌≤◌, ◌<◌, ℕ, List, IsTrue, length, None, Some};
+ghost use Rattle.std.specs.Prelude.{◌≡◌, ◌+◌, ◌≤◌, ◌<◌, ℕ, List, [], IsTrue, length, None, Some};
 ghost use Rattle.vr_wasm_link.specs.Functions.{function_of};
 ghost use Rattle.vr_wasm_steps.specs.Store.{are_of};
 ghost use Rattle.vr_wasm_steps.specs.Terms.{slots};
 ghost use Rattle.vr_wasm_steps.specs.declared.limits.TheConstants.{MAX_SLOTS};
-ghost use Rattle.vr_wasm_stacks.specs.Positions.{term_of, called};
+ghost use Rattle.vr_wasm_stacks.specs.Positions.{term_of, called, outside};
 ghost use Rattle.vr_wasm_run.specs.Calls.{passed, passed_outside, arguments, answered_at, IsAsked, IsReplied, IsCalled, IsCallable, IsEntered, HasArguments};
 
 use crate::progress::Progress;
@@ -69,6 +69,18 @@ fn enter_function<'m>(
     let results = sort.results.len() as u32;
     stacks.call(params, locals, results, rest, body);
     Progress::Went(1)
+}
+
+/// Enters a function from outside, where nothing else is left.
+pub fn enter_outside<'m>(stacks: &mut Stacks<'m>, sort: &FuncType, locals: u32, body: &'m [Instr])
+    requires results { length sort.now.results ≤ 1 }
+    requires locals { locals ≤ MAX_SLOTS }
+    ensures { stacks.new ≡ called outside 0 locals (length sort.now.results) [] body.now }
+{
+    let rest: &'m [Instr] = &[];
+    stacks.clear();
+    let results = sort.results.len() as u32;
+    stacks.call(0, locals, results, rest, body);
 }
 
 /// Asks the host, and puts its reply in place of the arguments.

@@ -1,13 +1,14 @@
-ghost use Rattle.std.specs.Prelude.{◌≡◌, ◌==◌, if◌then◌else◌, slice_get, unwrap_or, Some};
+ghost use Rattle.std.specs.Prelude.{◌≡◌, ◌≢◌, ◌==◌, ◌++◌, [], if◌then◌else◌, option_to_list, slice_get, unwrap_or, None, Some};
 ghost use Rattle.vr_wasm_ast.specs.Instructions.{instruction_of};
 ghost use Rattle.vr_wasm_ast.specs.declared.instr.Instr.TheVariants as tree;
 ghost use Rattle.vr_wasm_steps.specs.Rows.{arity, type_of};
 ghost use Rattle.vr_wasm_link.specs.Functions.{function_of};
-ghost use Rattle.vr_wasm_run.specs.Machines.{Stands, StandsAtEnd, Steps, program_of};
+ghost use Rattle.vr_wasm_run.specs.Machines.{IsLive, Stands, StandsAtEnd, Steps, program_of, waiting};
+ghost use Rattle.vr_wasm_stacks.specs.Positions.{IsRooted};
 ghost use Rattle.vr_wasm_run.specs.Calls.{AreCallable};
 ghost use Rattle.vr_wasm_run.specs.Plain.{IsPlain};
 
-use crate::calls::invoke;
+use crate::calls::{enter_outside, invoke};
 use crate::progress::Progress;
 use crate::state::State;
 use vr_wasm_ast::{FuncType, Instr, ValType};
@@ -200,6 +201,85 @@ impl<'m, H: Host> Running<'m, H> {
         self.state.stacks.leave_function();
         Progress::Went(1)
     }
+
+    /// The instruction that comes next, which these follow.
+    fn instruction(&mut self, instr: &'m Instr, rest: &'m [Instr]) -> Progress
+        requires stands { Stands H.world H.reply self.old instr.now rest.now }
+        requires callable { AreCallable H.finds (program_of H.reply self.old).functions }
+        ensures { Steps H.world H.stops H.reply self.old result self.new }
+    {
+        match instr {
+            Instr::Block(value, body) => self.block(instr, rest, *value, body.as_slice()),
+            Instr::Loop(value, body) => self.repeat(instr, rest, *value, body.as_slice()),
+            Instr::If(value, taken, other) => {
+                self.choose(instr, rest, *value, taken.as_slice(), other.as_slice())
+            }
+            Instr::Br(label) => self.branch(instr, rest, *label),
+            Instr::BrIf(label) => self.branch_if(instr, rest, *label),
+            Instr::BrTable(labels, default) => {
+                self.branch_table(instr, rest, labels.as_slice(), *default)
+            }
+            Instr::Return => self.leave_function(instr, rest),
+            Instr::Call(at) => self.call(instr, rest, *at),
+            Instr::CallIndirect(wanted) => self.call_indirect(instr, rest, *wanted),
+            _ => self.plain(instr, rest),
+        }
+    }
+
+    /// The instruction that comes next, or the end of the block or the function.
+    fn inside(&mut self) -> Progress
+        requires inside { self.old.state.stacks.layers ≢ [] }
+        requires live { IsLive H.finds H.world H.reply self.old }
+        ensures { Steps H.world H.stops H.reply self.old result self.new }
+    {
+        match self.state.stacks.code() {
+            [instr, rest @ ..] => self.instruction(instr, rest),
+            [] => self.leave(),
+        }
+    }
+
+    /// Calls the next function from outside, where nothing is left of the one before.
+    fn outside(&mut self) -> Progress
+        requires outside { self.old.state.stacks.layers ≡ [] }
+        requires ended { self.old.state.stacks.code ≡ [] }
+        requires rooted { IsRooted self.old.state.stacks.layers self.old.state.stacks.locals }
+        requires live { IsLive H.finds H.world H.reply self.old }
+        ensures { Steps H.world H.stops H.reply self.old result self.new }
+    {
+        let at = match take_waiting(&mut self.first, &mut self.main) {
+            Some(at) => at,
+            None => return Progress::Over,
+        };
+        let callee = self.functions[at as usize];
+        match callee {
+            Callee::Own { sort, locals, body } => {
+                enter_outside(&mut self.state.stacks, sort, locals, body);
+                self.inside()
+            }
+            Callee::Outside { .. } => {
+                let rest: &'m [Instr] = &[];
+                self.state.stacks.clear();
+                invoke(&mut self.host, &mut self.state, callee, rest)
+            }
+        }
+    }
+
+    /// One step.
+    pub fn step(&mut self) -> Progress
+        requires { IsLive H.finds H.world H.reply self.old }
+        ensures { Steps H.world H.stops H.reply self.old result self.new }
+    {
+        match self.state.stacks.code() {
+            [instr, rest @ ..] => self.instruction(instr, rest),
+            [] => {
+                if self.state.stacks.is_outside() {
+                    self.outside()
+                } else {
+                    self.leave()
+                }
+            }
+        }
+    }
 }
 
 fn sort_of<'m>(callee: Callee<'m>) -> &'m FuncType
@@ -207,6 +287,18 @@ fn sort_of<'m>(callee: Callee<'m>) -> &'m FuncType
 {
     match callee {
         Callee::Own { sort, .. } | Callee::Outside { sort, .. } => sort,
+    }
+}
+
+/// The first one of the functions that are still to be called from outside, which it is then no
+/// longer.
+fn take_waiting(first: &mut Option<u32>, main: &mut Option<u32>) -> Option<u32>
+    ensures waiting { waiting first.old main.old ≡ option_to_list result ++ waiting first.new main.new }
+    ensures none { result ≡ None → waiting first.old main.old ≡ [] }
+{
+    match first.take() {
+        Some(at) => Some(at),
+        None => main.take(),
     }
 }
 

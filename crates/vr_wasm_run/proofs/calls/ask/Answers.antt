@@ -1,6 +1,4 @@
-use Rattle.std.proofs.Common.{◌≡◌, ◌∷◌, length, reverse, take, drop, refl, ap, sym, ◌∙◌, subst, arith}
-use Rattle.vr_wasm_steps.specs.Hosts.{Reply, gives_value, gives_nothing, FitsResults}
-use Rattle.vr_wasm_steps.specs.Store.{are_of}
+use Rattle.std.proofs.Common.{◌≡◌, ◌∷◌, reverse, take, drop, ap, sym, ◌∙◌, arith}
 use Rattle.vr_wasm_stacks.specs.Positions.{with_operands, with_code}
 use Rattle.vr_wasm_run.specs.Calls.{arguments, answered_at}
 use Rattle.vr_wasm_run.proofs.ReplyLemmas.{one_result, value_replied, nothing_replied}
