@@ -127,9 +127,9 @@ module _ {W : Type 0} (p : Program W) (k : Config W) (z : Position) (i : Instr) 
           row_is p k z i rest here j into named (tested ∙ ap ends_in e)
           ∙ through-stepped p k z.layers z.locals z.locals 1 k.store k.world (unwind (drop (length sort.params) vs) (frame (length sort.results) (reverse (take (length sort.params) vs) ++ replicate locals 0) (plains (instructions_of body) end) after))
 
-      own_tells : (o : Option ℕ) (progress : Progress) (z' : Position) → passed (term_of there) locals ≡ o → IsEntered o inside progress z' → IsRow (next p k) progress (moved p k z')
-      own_tells None progress z' e h = subst (λ x. IsRow (next p k) x (moved p k z')) (sym h.0) (own_step e ∙ ap (λ x. step 1 (moved p k x)) (sym h.1))
-      own_tells (Some kind) progress z' e h = subst (λ x. IsRow (next p k) x (moved p k z')) (sym h) (own_full kind e)
+      own_tells : (o : Option ℕ) (progress : Progress) (z' : Position) → passed (term_of there) locals ≡ o → IsEntered o inside progress z' → IsRow (next p k) k.world progress (moved p k z')
+      own_tells None progress z' e h = subst (λ x. IsRow (next p k) k.world x (moved p k z')) (sym h.0) (own_step e ∙ ap (λ x. step 1 (moved p k x)) (sym h.1))
+      own_tells (Some kind) progress z' e h = subst (λ x. IsRow (next p k) k.world x (moved p k z')) (sym h) (own_full kind e)
 
     -- ---- of a function of the host
 
@@ -152,7 +152,7 @@ module _ {W : Type 0} (p : Program W) (k : Config W) (z : Position) (i : Instr) 
       replied_tells : (results : List ValType) (reply : Reply W) (progress : Progress) (z' : Position) (memory' : Contents) (w' : W)
           → next p k ≡ next_of p k k.calls (through p k z.layers z.locals (replied k z.locals left results after reply))
           → IsReplied results reply without progress z' memory' w'
-          → IsRow (next p k) progress (record { store = with_memory k.store memory'; world = w'; term = term_of z'; calls = k.calls })
+          → IsRow (next p k) k.world progress (record { store = with_memory k.store memory'; world = w'; term = term_of z'; calls = k.calls })
       unfolding conf
       replied_tells results reply Stopped z' memory' w' e h = tt
       replied_tells (t ∷ []) (gives_value v m w) (Went cost) z' memory' w' e h =
@@ -228,12 +228,12 @@ module _ {W : Type 0} (p : Program W) (k : Config W) (z : Position) (i : Instr) 
 
       outside_tells : (o : Option ℕ) (progress : Progress) (z' : Position) (memory' : Contents) (w' : W) → passed_outside (term_of there) sort ≡ o → (o ≡ None → IsTrue (are_of sort.params args))
           → IsAsked o sort.results reply (answered_at sort there rest) progress z' memory' w'
-          → IsRow (next p k) progress (record { store = with_memory k.store memory'; world = w'; term = term_of z'; calls = k.calls })
+          → IsRow (next p k) k.world progress (record { store = with_memory k.store memory'; world = w'; term = term_of z'; calls = k.calls })
       unfolding asked_if
       outside_tells None progress z' memory' w' e t h =
           replied_tells (drop (length sort.params) vs) sort.results reply progress z' memory' w' (outside_asks true e (t refl)) h
       outside_tells (Some kind) progress z' memory' w' e t h =
-          subst (λ x. IsRow (next p k) x (record { store = with_memory k.store memory'; world = w'; term = term_of z'; calls = k.calls })) (sym h) (outside_full kind e)
+          subst (λ x. IsRow (next p k) k.world x (record { store = with_memory k.store memory'; world = w'; term = term_of z'; calls = k.calls })) (sym h) (outside_full kind e)
 
     -- ---- of either
 
@@ -264,10 +264,10 @@ module _ {W : Type 0} (p : Program W) (k : Config W) (z : Position) (i : Instr) 
     pub called_row : (callee : Callee) (progress : Progress) (z' : Position) (memory' : Contents) (w' : W)
         → row p k z.locals z.operands j after ≡ callee_called p k z.locals (length z.operands) vs after (Some (function_of callee))
         → HasArguments callee there → IsCalled p.reply callee rest there k.store.memory k.world progress z' memory' w'
-        → IsRow (next p k) progress (record { store = with_memory k.store memory'; world = w'; term = term_of z'; calls = k.calls })
+        → IsRow (next p k) k.world progress (record { store = with_memory k.store memory'; world = w'; term = term_of z'; calls = k.calls })
     called_row (Own sort locals body) progress z' memory' w' calls few h =
-        subst (λ x. IsRow (next p k) progress (record { store = with_memory k.store memory'; world = x; term = term_of z'; calls = k.calls })) (sym h.2)
-        (subst (λ x. IsRow (next p k) progress (record { store = with_memory k.store x; world = k.world; term = term_of z'; calls = k.calls })) (sym h.1)
+        subst (λ x. IsRow (next p k) k.world progress (record { store = with_memory k.store memory'; world = x; term = term_of z'; calls = k.calls })) (sym h.2)
+        (subst (λ x. IsRow (next p k) k.world progress (record { store = with_memory k.store x; world = k.world; term = term_of z'; calls = k.calls })) (sym h.1)
         (own_tells sort.now locals body.now (own_if sort.now locals body.now true calls (le-leb (length sort.now.params) (length vs) few)) (passed (term_of there) locals) progress z' refl h.0))
     called_row (Outside sort which) progress z' memory' w' calls few h =
         outside_tells sort.now which (outside_if sort.now which true calls (le-leb (length sort.now.params) (length vs) few.0)) (passed_outside (term_of there) sort.now) progress z' memory' w' refl few.1 h
@@ -291,7 +291,7 @@ module _ {W : Type 0} (p : Program W) (k : Config W) (z : Position) (i : Instr) 
 
     pub call_row : (progress : Progress) (z' : Position) (memory' : Contents) (w' : W)
         → HasArguments callee z → IsCalled p.reply callee rest z k.store.memory k.world progress z' memory' w'
-        → IsRow (next p k) progress (record { store = with_memory k.store memory'; world = w'; term = term_of z'; calls = k.calls })
+        → IsRow (next p k) k.world progress (record { store = with_memory k.store memory'; world = w'; term = term_of z'; calls = k.calls })
     call_row progress z' memory' w' few h = called_row (call place) named z.operands callee progress z' memory' w' direct few h
 
   -- a call of the function in the table at the place v, the last operand, which leaves the position z'
@@ -352,7 +352,7 @@ module _ {W : Type 0} (p : Program W) (k : Config W) (z : Position) (i : Instr) 
 
           pub indirect_row : type_of (function_of callee) ≡ sort → (progress : Progress) (z'' : Position) (memory' : Contents) (w' : W)
               → HasArguments callee z' → IsCalled p.reply callee rest z' k.store.memory k.world progress z'' memory' w'
-              → IsRow (next p k) progress (record { store = with_memory k.store memory'; world = w'; term = term_of z''; calls = k.calls })
+              → IsRow (next p k) k.world progress (record { store = with_memory k.store memory'; world = w'; term = term_of z''; calls = k.calls })
           indirect_row same progress z'' memory' w' few h =
               called_row (call_indirect wanted) named z'.operands callee progress z'' memory' w' (same_if true (equal_sorts (type_of (function_of callee)) sort same))
               (subst (HasArguments callee) (sym (rest_of z z' v split)) few)

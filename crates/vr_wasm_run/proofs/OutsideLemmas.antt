@@ -24,6 +24,10 @@ use Rattle.vr_wasm_run.proofs.CallLemmas.{call_found, call_arguments, call_row}
 
 -- ---- the stacks outside of everything
 
+pub outside_term : term_of outside ≡ end
+unfolding close
+outside_term = refl
+
 pub outside_frames : frames (term_of outside) ≡ 0
 unfolding close
 outside_frames = refl
@@ -88,7 +92,7 @@ module _ {W : Type 0} (p : Program W) (k : Config W) (f : ℕ) (fs : List ℕ) w
 
     pub host_row : HasArguments callee before → (progress : Progress) (z' : Position) (memory' : Contents) (w' : W)
         → IsCalled p.reply callee [] before k.store.memory k.world progress z' memory' w'
-        → IsRow (next p (entry p k f fs)) progress (record { store = with_memory k.store memory'; world = w'; term = term_of z'; calls = fs })
+        → IsRow (next p (entry p k f fs)) k.world progress (record { store = with_memory k.store memory'; world = w'; term = term_of z'; calls = fs })
     host_row few progress z' memory' w' h =
         call_row p (entry p k f fs) before (tree.Call f) [] (here term_is) f (instruction_of-Call f) callee found progress z' memory' w' few h
 

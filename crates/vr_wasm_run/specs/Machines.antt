@@ -6,6 +6,7 @@ use Rattle.vr_wasm_num.specs.Memory.{Contents}
 use Rattle.vr_wasm_steps.specs.Hosts.{Reply}
 use Rattle.vr_wasm_link.specs.Functions.{function_of}
 use Rattle.vr_wasm_steps.specs.Rows.{Program, Config, Next, step, over, exits_with, traps, lost, next}
+use Rattle.vr_wasm_steps.specs.Runs.{NeverLost}
 use Rattle.vr_wasm_stacks.specs.Positions.{IsRooted}
 use Rattle.vr_wasm_run.specs.Calls.{AreCallable}
 use Rattle.vr_wasm_run.specs.Configs.{config_of}
@@ -27,13 +28,13 @@ pending m = waiting m.first m.main
 abbrev pub config : {H W : Type 0} → (H → W) → Running H → Config W
 config world m = config_of m.state (world m.host) (pending m)
 
--- the progress is what comes next, to the configuration after it
-abbrev pub IsRow : {W : Type 0} → Next W → Progress → Config W → Type 0
-IsRow n (Went cost) k = n ≡ step cost k
-IsRow n Over k = n ≡ over
-IsRow n (Exited code) k = n ≡ exits_with code k.world
-IsRow n (Trapped kind) k = n ≡ traps kind
-IsRow n Stopped k = Unit {0}
+-- the progress is what comes next, from this world to the configuration after it
+abbrev pub IsRow : {W : Type 0} → Next W → W → Progress → Config W → Type 0
+IsRow n w (Went cost) k = n ≡ step cost k
+IsRow n w Over k = (n ≡ over) × (k.world ≡ w)
+IsRow n w (Exited code) k = n ≡ exits_with code k.world
+IsRow n w (Trapped kind) k = n ≡ traps kind
+IsRow n w Stopped k = Unit {0}
 
 -- the machine is before this instruction, and some row applies
 pub record Stands {H W : Type 0} (world : H → W) (reply : W → ℕ → List ℕ → Contents → Reply W) (m : Running H) (i : Instr) (rest : List Instr) : Type 0 where
@@ -56,7 +57,12 @@ pub record IsLive {H W : Type 0} (finds : List ℕ → List ℕ → FuncType →
 
 -- the machine went on by one row, and the count of stops rises where the host stopped it
 pub record Steps {H W : Type 0} (world : H → W) (stops : H → ℕ) (reply : W → ℕ → List ℕ → Contents → Reply W) (m : Running H) (progress : Progress) (m' : Running H) : Type 0 where
-  pub row : IsRow (next (program_of reply m) (config world m)) progress (config world m')
+  pub row : IsRow (next (program_of reply m) (config world m)) (world m.host) progress (config world m')
   pub program : program_of reply m' ≡ program_of reply m
   pub counted : stops m.host ≤ stops m'.host
   pub stopped : progress ≡ Stopped → stops m.host < stops m'.host
+
+-- each function can be called, and the program is never lost
+pub record IsFit {H W : Type 0} (finds : List ℕ → List ℕ → FuncType → Option ℕ) (world : H → W) (reply : W → ℕ → List ℕ → Contents → Reply W) (m : Running H) : Type 0 where
+  pub callable : AreCallable finds (program_of reply m).functions
+  pub live : NeverLost (program_of reply m) (config world m)

@@ -2,6 +2,9 @@
 #![tactic(auto)]
 
 mod calls;
+mod machine;
 mod progress;
 mod running;
 mod state;
+
+pub use machine::{End, Machine, Opening};

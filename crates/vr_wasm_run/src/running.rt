@@ -1,9 +1,9 @@
-ghost use Rattle.std.specs.Prelude.{◌≡◌, ◌≢◌, ◌==◌, ◌++◌, [], if◌then◌else◌, option_to_list, slice_get, unwrap_or, None, Some};
+ghost use Rattle.std.specs.Prelude.{◌≡◌, ◌≢◌, ◌↔◌, ◌==◌, IsTrue, ◌++◌, [], if◌then◌else◌, option_to_list, slice_get, unwrap_or, None, Some};
 ghost use Rattle.vr_wasm_ast.specs.Instructions.{instruction_of};
 ghost use Rattle.vr_wasm_ast.specs.declared.instr.Instr.TheVariants as tree;
-ghost use Rattle.vr_wasm_steps.specs.Rows.{arity, type_of};
+ghost use Rattle.vr_wasm_steps.specs.Rows.{arity, next, over, type_of};
 ghost use Rattle.vr_wasm_link.specs.Functions.{function_of};
-ghost use Rattle.vr_wasm_run.specs.Machines.{IsLive, Stands, StandsAtEnd, Steps, program_of, waiting};
+ghost use Rattle.vr_wasm_run.specs.Machines.{IsLive, Stands, StandsAtEnd, Steps, config, program_of, waiting};
 ghost use Rattle.vr_wasm_stacks.specs.Positions.{IsRooted};
 ghost use Rattle.vr_wasm_run.specs.Calls.{AreCallable};
 ghost use Rattle.vr_wasm_run.specs.Plain.{IsPlain};
@@ -280,6 +280,37 @@ impl<'m, H: Host> Running<'m, H> {
             }
         }
     }
+
+    /// Whether the program has ended, and no function is to be called.
+    pub fn is_over(&self) -> bool
+        ensures { IsTrue result ↔ (next (program_of H.reply self.now) (config H.world self.now) ≡ over) }
+    {
+        let code = self.state.stacks.code();
+        if !code.is_empty() {
+            return false;
+        }
+        if !self.state.stacks.is_outside() {
+            return false;
+        }
+        is_none_waiting(self.first, self.main)
+    }
+
+    /// The host, with the rest let go.
+    pub fn into_host(self) -> H
+        ensures { result ≡ self.entry.host }
+    {
+        let Running {
+            state,
+            types: _,
+            functions,
+            first: _,
+            main: _,
+            host,
+        } = self;
+        drop(state);
+        drop(functions);
+        host
+    }
 }
 
 fn sort_of<'m>(callee: Callee<'m>) -> &'m FuncType
@@ -300,6 +331,12 @@ fn take_waiting(first: &mut Option<u32>, main: &mut Option<u32>) -> Option<u32>
         Some(at) => Some(at),
         None => main.take(),
     }
+}
+
+fn is_none_waiting(first: Option<u32>, main: Option<u32>) -> bool
+    ensures { IsTrue result ↔ (waiting first main ≡ []) }
+{
+    first.is_none() && main.is_none()
 }
 
 /// How many results a block of this type has.

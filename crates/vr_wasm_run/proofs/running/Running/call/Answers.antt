@@ -49,7 +49,7 @@ returns g c =
     let found : slice_get (program_of g.H.Host.reply c.args.self.now).functions c.args.at ≡ Some (function_of c.index-callee.result.now) = function_at c.args.self.now.functions.items c.args.at c.index-callee.result.now inside c.index-callee.ensures in
     record {
       row =
-          subst (λ s. IsRow (next (program_of g.H.Host.reply c.args.self.now) (config g.H.Host.world c.args.self.now)) c.invoke.result (config_of s (g.H.Host.world c.invoke.new.host) (pending c.args.self.now))) (sym c.invoke.ensures.others)
+          subst (λ s. IsRow (next (program_of g.H.Host.reply c.args.self.now) (config g.H.Host.world c.args.self.now)) (g.H.Host.world c.args.self.now.host) c.invoke.result (config_of s (g.H.Host.world c.invoke.new.host) (pending c.args.self.now))) (sym c.invoke.ensures.others)
           (call_row (program_of g.H.Host.reply c.args.self.now) (config g.H.Host.world c.args.self.now) c.args.self.now.state.stacks c.args.instr.now c.args.rest.now here c.args.at (ap instruction_of c.requires.calls ∙ instruction_of-Call c.args.at) c.index-callee.result.now found c.invoke.result c.invoke.new.state.stacks c.invoke.new.state.memory (g.H.Host.world c.invoke.new.host) (call_arguments (program_of g.H.Host.reply c.args.self.now) (config g.H.Host.world c.args.self.now) c.args.self.now.state.stacks c.args.instr.now c.args.rest.now here c.args.at (ap instruction_of c.requires.calls ∙ instruction_of-Call c.args.at) c.index-callee.result.now found c.requires.stands.live) c.invoke.ensures.called);
       program = refl;
       counted = c.invoke.ensures.counted;

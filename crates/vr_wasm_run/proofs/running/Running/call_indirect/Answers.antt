@@ -101,7 +101,7 @@ returns g c =
     let same : type_of (function_of c.index-callee.result.now) ≡ c.index-self-wanted.result = sym c.sort_of.ensures ∙ c.equals.ensures.0 c.if-not-equals.false ∙ sym c.index-self-wanted.is in
     record {
       row =
-          subst (λ s. IsRow (next (program_of g.H.Host.reply c.args.self.now) (config g.H.Host.world c.args.self.now)) c.invoke.result (config_of s (g.H.Host.world c.invoke.new.host) (pending c.args.self.now))) (sym c.invoke.ensures.others)
+          subst (λ s. IsRow (next (program_of g.H.Host.reply c.args.self.now) (config g.H.Host.world c.args.self.now)) (g.H.Host.world c.args.self.now.host) c.invoke.result (config_of s (g.H.Host.world c.invoke.new.host) (pending c.args.self.now))) (sym c.invoke.ensures.others)
           (indirect_row (program_of g.H.Host.reply c.args.self.now) (config g.H.Host.world c.args.self.now) c.args.self.now.state.stacks c.args.instr.now c.args.rest.now here c.args.wanted (ap instruction_of c.requires.calls ∙ instruction_of-CallIndirect c.args.wanted) c.pop-at.new.self c.pop-at.result c.pop-at.ensures.value c.in-Some-Some.place there c.index-self-wanted.result typed c.index-callee.result.now found same c.invoke.result c.invoke.new.state.stacks c.invoke.new.state.memory (g.H.Host.world c.invoke.new.host) (indirect_arguments (program_of g.H.Host.reply c.args.self.now) (config g.H.Host.world c.args.self.now) c.args.self.now.state.stacks c.args.instr.now c.args.rest.now here c.args.wanted (ap instruction_of c.requires.calls ∙ instruction_of-CallIndirect c.args.wanted) c.pop-at.new.self c.pop-at.result c.pop-at.ensures.value c.in-Some-Some.place there c.index-self-wanted.result typed c.index-callee.result.now found same c.requires.stands.live) c.invoke.ensures.called);
       program = refl;
       counted = c.invoke.ensures.counted;

@@ -14,7 +14,7 @@ use Rattle.vr_wasm_run.proofs.running.Running.outside.Goals as goal
 pub returns-in-None : goal.returns-in-None
 returns-in-None g c =
     record {
-      row = outside_over (program_of g.H.Host.reply c.args.self.now) (config g.H.Host.world c.args.self.now) c.args.self.now.state.stacks refl c.requires.rooted c.requires.ended c.requires.outside (c.in-None.ensures.none refl);
+      row = (outside_over (program_of g.H.Host.reply c.args.self.now) (config g.H.Host.world c.args.self.now) c.args.self.now.state.stacks refl c.requires.rooted c.requires.ended c.requires.outside (c.in-None.ensures.none refl), refl);
       program = refl;
       counted = as_many (g.H.Host.stops c.args.self.now.host);
       stopped = λ e. absurd (over_itself e);
@@ -80,7 +80,7 @@ returns-in-Own g c =
     into ∙ ap (λ x. next (program_of g.H.Host.reply c.args.self.now) (record (config g.H.Host.world c.args.self.now) { term = x; calls = (waiting c.take_waiting.new.first c.take_waiting.new.main) })) entered
     in
     record {
-      row = subst (λ n. IsRow n c.inside.result (config g.H.Host.world c.inside.new.self)) (sym same) c.inside.ensures.row;
+      row = subst (λ n. IsRow n (g.H.Host.world c.args.self.now.host) c.inside.result (config g.H.Host.world c.inside.new.self)) (sym same) c.inside.ensures.row;
       program = c.inside.ensures.program;
       counted = c.inside.ensures.counted;
       stopped = c.inside.ensures.stopped;
@@ -116,8 +116,8 @@ returns-in-Outside g c =
     in
     record {
       row =
-          subst (λ n. IsRow n c.invoke.result (config_of c.invoke.new.state (g.H.Host.world c.invoke.new.host) (waiting c.take_waiting.new.first c.take_waiting.new.main))) (sym into)
-          (subst (λ s. IsRow (next (program_of g.H.Host.reply c.args.self.now) (entry (program_of g.H.Host.reply c.args.self.now) (config g.H.Host.world c.args.self.now) c.in-Some.at (waiting c.take_waiting.new.first c.take_waiting.new.main))) c.invoke.result (config_of s (g.H.Host.world c.invoke.new.host) (waiting c.take_waiting.new.first c.take_waiting.new.main))) (sym c.invoke.ensures.others)
+          subst (λ n. IsRow n (g.H.Host.world c.args.self.now.host) c.invoke.result (config_of c.invoke.new.state (g.H.Host.world c.invoke.new.host) (waiting c.take_waiting.new.first c.take_waiting.new.main))) (sym into)
+          (subst (λ s. IsRow (next (program_of g.H.Host.reply c.args.self.now) (entry (program_of g.H.Host.reply c.args.self.now) (config g.H.Host.world c.args.self.now) c.in-Some.at (waiting c.take_waiting.new.first c.take_waiting.new.main))) (g.H.Host.world c.args.self.now.host) c.invoke.result (config_of s (g.H.Host.world c.invoke.new.host) (waiting c.take_waiting.new.first c.take_waiting.new.main))) (sym c.invoke.ensures.others)
           (host_row (program_of g.H.Host.reply c.args.self.now) (config g.H.Host.world c.args.self.now) c.in-Some.at (waiting c.take_waiting.new.first c.take_waiting.new.main) c.index-callee.result.now c.in-Outside.sort.now c.in-Outside.which is found (host_arguments (program_of g.H.Host.reply c.args.self.now) (config g.H.Host.world c.args.self.now) c.in-Some.at (waiting c.take_waiting.new.first c.take_waiting.new.main) c.index-callee.result.now c.in-Outside.sort.now c.in-Outside.which is found live) c.invoke.result c.invoke.new.state.stacks c.invoke.new.state.memory (g.H.Host.world c.invoke.new.host)
           (called_there (program_of g.H.Host.reply c.args.self.now) (config g.H.Host.world c.args.self.now) c.in-Some.at (waiting c.take_waiting.new.first c.take_waiting.new.main) c.index-callee.result.now c.invoke.result c.invoke.new.state.stacks c.invoke.new.state.memory (g.H.Host.world c.invoke.new.host) called)));
       program = refl;
