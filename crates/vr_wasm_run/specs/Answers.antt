@@ -13,7 +13,8 @@ Tells p fuel k OutOfFuel w = StillRuns p fuel k
 Tells p fuel k HostStopped w = Unit {0}
 
 -- it is the only one, unless the host stopped the run
-pub record IsExact {W : Type 0} (p : Program W) (fuel : ℕ) (k : Config W) (end : End) (w : W) : Type 0 where
+pub record IsExact {W : Type 0} (p : Program W) (fuel : ℕ) (k : Config W)
+    (end : End) (w : W) : Type 0 where
   pub ended : (code used : ℕ) (w' : W) → used ≤ fuel → Ends p used k code w'
       → (end ≡ HostStopped) ⊎ ((end ≡ Ended code used) × (w' ≡ w))
   pub trapped : (kind used : ℕ) → used ≤ fuel → Traps p used k kind

@@ -7,4 +7,9 @@ use Rattle.vr_wasm_run.specs.declared.state.State.{State}
 
 -- with the host's world, and the functions that are still to be called from outside
 abbrev pub config_of : {W : Type 0} → State → W → List ℕ → Config W
-config_of s w calls = record { store = store_of s; world = w; term = term_of s.stacks; calls = calls }
+config_of s w calls = record {
+  store = store_of s;
+  world = w;
+  term = term_of s.stacks;
+  calls = calls;
+}

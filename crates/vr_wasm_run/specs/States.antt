@@ -28,11 +28,17 @@ pub record Ready (s : State) (i : Instruction) : Type 0 where
   pub within : IsWithin s
   pub rule : effect_of s i ≢ stuck
 
--- after the effect: the cost of the row, and the state, in which the same instructions are left; or the trap
+-- after the effect: the cost of the row, and the state, in which the same instructions are left;
+-- or the trap
 abbrev pub Makes : State → Effect → Result ℕ Trap → State → Type 0
 Makes s (leaves cost m ls vs) (Ok n) s' =
-    (n ≡ cost) × (store_of s' ≡ m) × (s'.stacks ≡ record s.stacks { locals = ls; operands = vs }) × (slots (term_of s.stacks) + length vs ≤ MAX_SLOTS + length s.stacks.operands)
-Makes s (leaves cost m ls vs) (Err trap) s' = (trap.kind ≡ TOO_MANY_VALUES) × (MAX_SLOTS + length s.stacks.operands < slots (term_of s.stacks) + length vs)
+    (n ≡ cost)
+    × (store_of s' ≡ m)
+    × (s'.stacks ≡ record s.stacks { locals = ls; operands = vs })
+    × (slots (term_of s.stacks) + length vs ≤ MAX_SLOTS + length s.stacks.operands)
+Makes s (leaves cost m ls vs) (Err trap) s' =
+    (trap.kind ≡ TOO_MANY_VALUES)
+    × (MAX_SLOTS + length s.stacks.operands < slots (term_of s.stacks) + length vs)
 Makes s (trapped kind) (Ok n) s' = ⊥
 Makes s (trapped kind) (Err trap) s' = trap.kind ≡ kind
 Makes s stuck result s' = Unit {0}

@@ -6,7 +6,9 @@ ghost use Rattle.vr_wasm_steps.specs.Store.{are_of};
 ghost use Rattle.vr_wasm_steps.specs.Terms.{slots};
 ghost use Rattle.vr_wasm_steps.specs.declared.limits.TheConstants.{MAX_SLOTS};
 ghost use Rattle.vr_wasm_stacks.specs.Positions.{term_of, called, outside};
-ghost use Rattle.vr_wasm_run.specs.Calls.{passed, passed_outside, arguments, answered_at, IsAsked, IsReplied, IsCalled, IsCallable, IsEntered, HasArguments};
+ghost use Rattle.vr_wasm_run.specs.Calls.{passed, passed_outside, arguments, answered_at};
+ghost use Rattle.vr_wasm_run.specs.Calls.{IsAsked, IsReplied, IsCalled, IsCallable, IsEntered};
+ghost use Rattle.vr_wasm_run.specs.Calls.{HasArguments};
 
 use crate::progress::Progress;
 use crate::state::State;
@@ -58,7 +60,8 @@ fn enter_function<'m>(
     requires params { length sort.now.params ≤ length stacks.old.operands }
     requires results { length sort.now.results ≤ 1 }
     ensures { IsEntered (passed (term_of stacks.old) locals)
-        (called stacks.old (length sort.now.params) locals (length sort.now.results) rest.now body.now)
+        (called stacks.old (length sort.now.params) locals (length sort.now.results)
+        rest.now body.now)
         result stacks.new }
 {
     let _ = stacks.code();
@@ -95,7 +98,8 @@ fn ask<'m, H: Host>(
     requires found { (from : List ℕ) × (name : List ℕ) × (H.finds from name sort.now ≡ Some which) }
     requires params { length sort.now.params ≤ length stacks.old.operands }
     requires typed { IsTrue (are_of sort.now.params (arguments sort.now stacks.old)) }
-    requires room { slots (term_of stacks.old) + length sort.now.results ≤ MAX_SLOTS + length sort.now.params }
+    requires room { slots (term_of stacks.old) + length sort.now.results
+        ≤ MAX_SLOTS + length sort.now.params }
     ensures replied { IsReplied sort.now.results
         (H.reply (H.world host.old) which (arguments sort.now stacks.old) memory.old)
         (answered_at sort.now stacks.old rest.now) result stacks.new memory.new (H.world host.new) }
@@ -157,7 +161,8 @@ pub fn invoke<'m, H: Host>(
     ensures called { IsCalled H.reply callee.entry rest.now
         state.old.stacks state.old.memory (H.world host.old)
         result state.new.stacks state.new.memory (H.world host.new) }
-    ensures others { state.new ≡ record state.old { stacks = state.new.stacks; memory = state.new.memory } }
+    ensures others { state.new
+        ≡ record state.old { stacks = state.new.stacks; memory = state.new.memory } }
     ensures counted { H.stops host.old ≤ H.stops host.new }
     ensures stopped { result ≡ Progress.Stopped → H.stops host.old < H.stops host.new }
 {

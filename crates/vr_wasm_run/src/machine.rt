@@ -65,8 +65,8 @@ impl<'m, H: Host> Model for Machine<'m, H> {
 }
 
 impl<'m, H: Host> Machine<'m, H> {
-    /// A machine before the first step. All that a run may need is reserved here. Without memory the host
-    /// comes back.
+    /// A machine before the first step. All that a run may need is reserved here. Without memory
+    /// the host comes back.
     pub fn opened(
         alloc: Global,
         opening: Opening<'m>,
@@ -75,9 +75,11 @@ impl<'m, H: Host> Machine<'m, H> {
         requires callable { AreCallable H.finds (map function_of opening.functions.items) }
         requires live { NeverLost (opened_program H.reply opening)
             (start (opened_store opening) (H.world host) opening.first opening.main) }
-        ensures program { IfOk result (λ m. program_of H.reply m ≡ opened_program H.reply opening.entry) }
+        ensures program { IfOk result (λ m.
+            program_of H.reply m ≡ opened_program H.reply opening.entry) }
         ensures begins { IfOk result (λ m. config H.world m
-            ≡ start (opened_store opening.entry) (H.world host) opening.entry.first opening.entry.main) }
+            ≡ start (opened_store opening.entry) (H.world host)
+            opening.entry.first opening.entry.main) }
         ensures host { IfOk result (λ m. m.host ≡ host) }
         ensures returned { IfErr result (λ e. e.1 ≡ host) }
     {
@@ -115,8 +117,10 @@ impl<'m, H: Host> Machine<'m, H> {
 
     /// Runs for at most so many steps, and takes no memory.
     pub fn run(self, fuel: u64) -> (End, H)
-        ensures tells { Tells (program_of H.reply self.entry) fuel (config H.world self.entry) result.0 (H.world result.1) }
-        ensures exact { IsExact (program_of H.reply self.entry) fuel (config H.world self.entry) result.0 (H.world result.1) }
+        ensures tells { Tells (program_of H.reply self.entry) fuel (config H.world self.entry)
+            result.0 (H.world result.1) }
+        ensures exact { IsExact (program_of H.reply self.entry) fuel (config H.world self.entry)
+            result.0 (H.world result.1) }
         ensures counted { H.stops self.entry.host ≤ H.stops result.1 }
         ensures stopped { result.0 ≡ End.HostStopped → H.stops self.entry.host < H.stops result.1 }
     {
@@ -129,9 +133,11 @@ impl<'m, H: Host> Machine<'m, H> {
 fn go_on<'m, H: Host>(running: Running<'m, H>, fuel: u64) -> (End, H)
     requires callable { AreCallable H.finds (program_of H.reply running).functions }
     requires live { NeverLost (program_of H.reply running) (config H.world running) }
-    ensures tells { Tells (program_of H.reply running.entry) fuel (config H.world running.entry) result.0 (H.world result.1) }
+    ensures tells { Tells (program_of H.reply running.entry) fuel (config H.world running.entry)
+        result.0 (H.world result.1) }
     ensures counted { H.stops running.entry.host ≤ H.stops result.1 }
-    ensures stopped { result.0 ≡ End.HostStopped → H.stops running.entry.host < H.stops result.1 }
+    ensures stopped { result.0 ≡ End.HostStopped
+        → H.stops running.entry.host < H.stops result.1 }
 {
     let mut running = running;
     let mut left = fuel;

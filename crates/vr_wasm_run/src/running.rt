@@ -1,9 +1,13 @@
-ghost use Rattle.std.specs.Prelude.{◌≡◌, ◌≢◌, ◌↔◌, ◌==◌, IsTrue, ◌++◌, [], if◌then◌else◌, option_to_list, slice_get, unwrap_or, None, Some};
+//! One step of a running program.
+
+ghost use Rattle.std.specs.Prelude.{◌≡◌, ◌≢◌, ◌↔◌, ◌==◌, ◌++◌, [], IsTrue, None, Some};
+ghost use Rattle.std.specs.Prelude.{if◌then◌else◌, option_to_list, slice_get, unwrap_or};
 ghost use Rattle.vr_wasm_ast.specs.Instructions.{instruction_of};
 ghost use Rattle.vr_wasm_ast.specs.declared.instr.Instr.TheVariants as tree;
 ghost use Rattle.vr_wasm_steps.specs.Rows.{arity, next, over, type_of};
 ghost use Rattle.vr_wasm_link.specs.Functions.{function_of};
-ghost use Rattle.vr_wasm_run.specs.Machines.{IsLive, Stands, StandsAtEnd, Steps, config, program_of, waiting};
+ghost use Rattle.vr_wasm_run.specs.Machines.{IsLive, Stands, StandsAtEnd, Steps};
+ghost use Rattle.vr_wasm_run.specs.Machines.{config, program_of, waiting};
 ghost use Rattle.vr_wasm_stacks.specs.Positions.{IsRooted};
 ghost use Rattle.vr_wasm_run.specs.Calls.{AreCallable};
 ghost use Rattle.vr_wasm_run.specs.Plain.{IsPlain};
@@ -283,7 +287,8 @@ impl<'m, H: Host> Running<'m, H> {
 
     /// Whether the program has ended, and no function is to be called.
     pub fn is_over(&self) -> bool
-        ensures { IsTrue result ↔ (next (program_of H.reply self.now) (config H.world self.now) ≡ over) }
+        ensures { IsTrue result
+            ↔ (next (program_of H.reply self.now) (config H.world self.now) ≡ over) }
     {
         let code = self.state.stacks.code();
         if !code.is_empty() {
@@ -324,7 +329,8 @@ fn sort_of<'m>(callee: Callee<'m>) -> &'m FuncType
 /// The first one of the functions that are still to be called from outside, which it is then no
 /// longer.
 fn take_waiting(first: &mut Option<u32>, main: &mut Option<u32>) -> Option<u32>
-    ensures waiting { waiting first.old main.old ≡ option_to_list result ++ waiting first.new main.new }
+    ensures waiting { waiting first.old main.old
+        ≡ option_to_list result ++ waiting first.new main.new }
     ensures none { result ≡ None → waiting first.old main.old ≡ [] }
 {
     match first.take() {

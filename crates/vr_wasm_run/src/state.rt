@@ -24,7 +24,11 @@ pub struct State<'m> {
 }
 
 impl<'m> State<'m> {
-    ghost use Rattle.vr_wasm_ast.specs.Instructions.{nop, drop, select, local_get, local_set, local_tee, global_get, global_set, memory_size, memory_grow, memory_copy, memory_fill, i32_const, i64_const, numeric, load, store, instruction_of};
+    ghost use Rattle.vr_wasm_ast.specs.Instructions.{nop, drop, select, local_get, local_set};
+    ghost use Rattle.vr_wasm_ast.specs.Instructions.{local_tee, global_get, global_set};
+    ghost use Rattle.vr_wasm_ast.specs.Instructions.{memory_size, memory_grow, memory_copy};
+    ghost use Rattle.vr_wasm_ast.specs.Instructions.{memory_fill, i32_const, i64_const, numeric};
+    ghost use Rattle.vr_wasm_ast.specs.Instructions.{load, store, instruction_of};
     ghost use Rattle.vr_wasm_run.specs.States.{Ready, Makes, effect_of, IsConversion};
     ghost use Rattle.vr_wasm_ast.specs.Opcodes.{numeric_of};
     ghost use Rattle.std.specs.Prelude.{◌≡◌, Some};
