@@ -6,7 +6,7 @@ use Rattle.vr_wasm_ast.specs.Instructions.{Instructions, done, then as then_, in
 use Rattle.vr_wasm_steps.specs.Terms.{Term, end, value, label, frame, plains, unwind, frames, slots, labels}
 use Rattle.vr_wasm_stacks.specs.declared.control.Control.{Control}
 use Rattle.vr_wasm_stacks.specs.declared.control.Control.TheVariants.{Block, Call}
-use Rattle.vr_wasm_stacks.specs.Positions.{Position, close, term_of}
+use Rattle.vr_wasm_stacks.specs.Positions.{Layer, in_label, in_frame, Position, close, term_of, with_operands}
 use Rattle.vr_wasm_stacks.specs.Flat.{height, operands, locals, layers, position, calls, Rises, continuation}
 
 pub slots-plains : (is : Instructions) → slots (plains is end) ≡ 0
@@ -98,3 +98,30 @@ labels_at z es st code e = ap (λ x. labels (term_of x)) (sym e) ∙ labels_posi
 
 pub frames_at : (z : Position) (es : List Control) (st : List ℕ) (code : List Instr) → position es st code ≡ z → frames (term_of z) ≡ calls es
 frames_at z es st code e = ap (λ x. frames (term_of x)) (sym e) ∙ frames_position es st code
+
+-- ---- one more value
+
+slots-inside : (layers : List Layer) (ls : List ℕ) (s t : Term) → slots (close layers ls s) + slots t ≡ slots (close layers ls t) + slots s
+unfolding close
+slots-inside [] ls s t = omega arith
+slots-inside (in_label n next vs after ∷ layers) ls s t =
+    let in_s : Term = label n (instructions_of next) s (plains (instructions_of after) end) in
+    let in_t : Term = label n (instructions_of next) t (plains (instructions_of after) end) in
+    omega (arith, slots-inside layers ls (unwind vs in_s) (unwind vs in_t), slots-unwind vs in_s, slots-unwind vs in_t)
+slots-inside (in_frame n vs after outer ∷ layers) ls s t =
+    let in_s : Term = frame n ls s (plains (instructions_of after) end) in
+    let in_t : Term = frame n ls t (plains (instructions_of after) end) in
+    omega (arith, slots-inside layers outer (unwind vs in_s) (unwind vs in_t), slots-unwind vs in_s, slots-unwind vs in_t)
+
+-- with other operands
+pub slots_with : (z : Position) (vs : List ℕ) → slots (term_of (with_operands z vs)) + length z.operands ≡ slots (term_of z) + length vs
+slots_with z vs =
+    let s : Term = unwind vs (plains (instructions_of z.code) end) in
+    let t : Term = unwind z.operands (plains (instructions_of z.code) end) in
+    omega (arith, slots-inside z.layers z.locals s t, slots-unwind vs (plains (instructions_of z.code) end), slots-unwind z.operands (plains (instructions_of z.code) end))
+
+pub slots_pushed : (z z' : Position) (v : ℕ) → z ≡ with_operands z' (v ∷ z'.operands) → slots (term_of z) ≡ slots (term_of z') + 1
+slots_pushed z z' v e = omega (arith, ap (λ x. slots (term_of x)) e, slots_with z' (v ∷ z'.operands))
+
+pub slots_dropped : (z z' : Position) (n : ℕ) → z' ≡ with_operands z (drop n z.operands) → n ≤ length z.operands → slots (term_of z) ≡ slots (term_of z') + n
+slots_dropped z z' n e few = omega (arith, ap (λ x. slots (term_of x)) e, slots_with z (drop n z.operands), length-drop n z.operands)

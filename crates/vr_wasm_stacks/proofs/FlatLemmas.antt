@@ -7,7 +7,7 @@ use Rattle.vr_wasm_ast.specs.declared.instr.Instr.{Instr}
 use Rattle.vr_wasm_stacks.specs.declared.control.Control.{Control}
 use Rattle.vr_wasm_stacks.specs.declared.control.Control.TheVariants.{Block, Call}
 use Rattle.vr_wasm_stacks.specs.Flat.{height, operands, locals, layers, position, continuation, Rises, Keeps}
-use Rattle.vr_wasm_stacks.specs.Positions.{Position, in_label, in_frame, with_operands, with_locals}
+use Rattle.vr_wasm_stacks.specs.Positions.{Position, in_label, in_frame, with_operands, with_locals, IsRooted}
 use Rattle.vr_wasm_stacks.proofs.CountLemmas.{length-operands, height_within}
 
 take-reverse : (n : ℕ) (xs : List ℕ) → n ≤ length xs → take n (reverse xs) ≡ reverse (drop (length xs - n) xs)
@@ -143,3 +143,11 @@ pub local_of : (z : Position) (es : List Control) (st : List ℕ) (code : List I
 local_of z es st code place base i e k r =
     let P : Position → Type 0 = λ x. i < length x.locals → IsLocal es st base i in
     subst P e (local_at es place base i st k r)
+
+rooted : (es : List Control) (st : List ℕ) → IsRooted (layers es st) (locals es st)
+rooted [] st = refl
+rooted (Block n target rest h ∷ es) st = rooted es (take h st)
+rooted (Call n rest b h place outer ∷ es) st = rooted es (take b st)
+
+pub rooted_at : (z : Position) (es : List Control) (st : List ℕ) (code : List Instr) → position es st code ≡ z → IsRooted z.layers z.locals
+rooted_at z es st code e = let P : Position → Type 0 = λ x. IsRooted x.layers x.locals in subst P e (rooted es st)

@@ -29,6 +29,12 @@ close (in_frame n vs after outer ∷ layers) ls s = close layers outer (unwind v
 abbrev pub term_of : Position → Term
 term_of z = close z.layers z.locals (unwind z.operands (plains (instructions_of z.code) end))
 
+-- outside of all frames there are no locals
+abbrev pub IsRooted : List Layer → List ℕ → Type 0
+IsRooted [] ls = ls ≡ []
+IsRooted (in_label n next vs after ∷ layers) ls = IsRooted layers ls
+IsRooted (in_frame n vs after outer ∷ layers) ls = IsRooted layers outer
+
 -- ---- the moves
 
 -- outside of everything

@@ -36,7 +36,7 @@ impl<'m> Model for Stacks<'m> {
 }
 
 impl<'m> Stacks<'m> {
-    ghost use Rattle.vr_wasm_stacks.specs.Positions.{term_of, outside, with_operands, with_locals, with_code, entered, called, depth, jump, leave, IsHead};
+    ghost use Rattle.vr_wasm_stacks.specs.Positions.{term_of, outside, with_operands, with_locals, with_code, entered, called, depth, jump, leave, IsHead, IsRooted};
 
     /// Stacks with room for all that the limits allow.
     pub fn new(alloc: Global) -> Result<Stacks<'m>, AllocError>
@@ -55,7 +55,9 @@ impl<'m> Stacks<'m> {
 
     /// The instructions that are left of the innermost sequence.
     pub fn code(&self) -> &'m [Instr]
-        ensures { result.now ≡ self.now.code }
+        ensures code { result.now ≡ self.now.code }
+        ensures rooted { IsRooted self.now.layers self.now.locals }
+        ensures slots { slots_of (term_of self.now) ≤ MAX_SLOTS }
     {
         self.code
     }
@@ -65,6 +67,19 @@ impl<'m> Stacks<'m> {
         ensures { IsTrue result ↔ (self.now.layers ≡ []) }
     {
         self.controls.is_empty()
+    }
+
+    /// Leaves everything: the operands too.
+    pub fn clear(&mut self)
+        ensures { self.new ≡ outside }
+    {
+        let code: &'m [Instr] = &[];
+        self.code = code;
+        self.values.truncate(0);
+        self.controls.truncate(0);
+        self.frames = 0;
+        self.frame = 0;
+        self.base = 0;
     }
 
     /// Goes on to these instructions.
@@ -104,7 +119,8 @@ impl<'m> Stacks<'m> {
 
     pub fn pop(&mut self) -> u64
         requires { 0 < length self.old.operands }
-        ensures { self.old ≡ with_operands self.new (result ∷ self.new.operands) }
+        ensures value { self.old ≡ with_operands self.new (result ∷ self.new.operands) }
+        ensures slots { slots_of (term_of self.old) ≡ slots_of (term_of self.new) + 1 }
     {
         self.values.pop().unwrap()
     }
@@ -135,7 +151,8 @@ impl<'m> Stacks<'m> {
 
     pub fn drop_last(&mut self, count: usize)
         requires { count ≤ length self.old.operands }
-        ensures { self.new ≡ with_operands self.old (drop count self.old.operands) }
+        ensures values { self.new ≡ with_operands self.old (drop count self.old.operands) }
+        ensures slots { slots_of (term_of self.old) ≡ slots_of (term_of self.new) + count }
     {
         let left = self.values.len() - count;
         self.values.truncate(left);

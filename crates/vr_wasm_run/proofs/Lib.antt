@@ -1,0 +1,14 @@
+pub mod AnswerLemmas
+pub mod CallLemmas
+pub mod ControlLemmas
+pub mod CostLemmas
+pub mod FunctionLemmas
+pub mod OperandLemmas
+pub mod OutsideLemmas
+pub mod PlainLemmas
+pub mod ProgressLemmas
+pub mod ReachLemmas
+pub mod ReplyLemmas
+pub mod RowLemmas
+pub mod RunLemmas
+pub mod ThroughLemmas

@@ -1,0 +1,10 @@
+//! Runs WebAssembly programs, step by step.
+#![tactic(auto)]
+
+mod calls;
+mod machine;
+mod progress;
+mod running;
+mod state;
+
+pub use machine::{End, Machine, Opening};

@@ -1,0 +1,379 @@
+//! The instructions that stay in their sequence.
+
+ghost use Rattle.std.specs.Prelude.{◌≡◌, ◌*◌, ◌^◌, ◌<◌, ◌≤◌};
+ghost use Rattle.vr_wasm_num.specs.Memory.{IsWidth};
+ghost use Rattle.vr_wasm_run.specs.Access.{IsNarrow};
+ghost use Rattle.vr_wasm_steps.specs.Effects.{extended};
+
+use vr_wasm_ast::{
+    Instr, MemoryAccess, NumericFamily, ValType, load_access, numeric_family, store_access,
+};
+use vr_wasm_num::{
+    MEMORY_OUT_OF_BOUNDS, Memory, TOO_MANY_VALUES, Trap, UNREACHABLE, convert, i32_binary,
+    i32_compare, i32_unary, i64_binary, i64_compare, i64_unary,
+};
+use vr_wasm_stacks::Stacks;
+
+/// What a running program keeps.
+#[derive(Drop)]
+pub struct State<'m> {
+    pub stacks: Stacks<'m>,
+    pub memory: Memory,
+    pub table: Vec<Option<u32>>,
+    pub globals: Vec<u64>,
+}
+
+impl<'m> State<'m> {
+    ghost use Rattle.vr_wasm_ast.specs.Instructions.{nop, drop, select, local_get, local_set};
+    ghost use Rattle.vr_wasm_ast.specs.Instructions.{local_tee, global_get, global_set};
+    ghost use Rattle.vr_wasm_ast.specs.Instructions.{memory_size, memory_grow, memory_copy};
+    ghost use Rattle.vr_wasm_ast.specs.Instructions.{memory_fill, i32_const, i64_const, numeric};
+    ghost use Rattle.vr_wasm_ast.specs.Instructions.{load, store, instruction_of};
+    ghost use Rattle.vr_wasm_run.specs.States.{Ready, Makes, effect_of, IsConversion};
+    ghost use Rattle.vr_wasm_ast.specs.Opcodes.{numeric_of};
+    ghost use Rattle.std.specs.Prelude.{◌≡◌, Some};
+
+    fn nop(&mut self) -> Result<u64, Trap>
+        requires { Ready self.old nop }
+        ensures { Makes self.old (effect_of self.old nop) result self.new }
+    {
+        let _ = &self.memory;
+        Ok(1)
+    }
+
+    fn discard(&mut self) -> Result<u64, Trap>
+        requires { Ready self.old drop }
+        ensures { Makes self.old (effect_of self.old drop) result self.new }
+    {
+        let _ = self.stacks.pop();
+        Ok(1)
+    }
+
+    fn select(&mut self) -> Result<u64, Trap>
+        requires { Ready self.old select }
+        ensures { Makes self.old (effect_of self.old select) result self.new }
+    {
+        let test = self.stacks.pop();
+        let second = self.stacks.pop();
+        let first = self.stacks.pop();
+        self.stacks.push(if test == 0 { second } else { first });
+        Ok(1)
+    }
+
+    fn local_get(&mut self, at: u32) -> Result<u64, Trap>
+        requires { Ready self.old (local_get at) }
+        ensures { Makes self.old (effect_of self.old (local_get at)) result self.new }
+    {
+        if !self.stacks.has_room(1) {
+            return Err(Trap {
+                kind: TOO_MANY_VALUES,
+            });
+        }
+        let value = self.stacks.local(at as usize);
+        self.stacks.push(value);
+        Ok(1)
+    }
+
+    fn local_set(&mut self, at: u32) -> Result<u64, Trap>
+        requires { Ready self.old (local_set at) }
+        ensures { Makes self.old (effect_of self.old (local_set at)) result self.new }
+    {
+        let value = self.stacks.pop();
+        self.stacks.set_local(at as usize, value);
+        Ok(1)
+    }
+
+    fn local_tee(&mut self, at: u32) -> Result<u64, Trap>
+        requires { Ready self.old (local_tee at) }
+        ensures { Makes self.old (effect_of self.old (local_tee at)) result self.new }
+    {
+        let value = self.stacks.pop();
+        self.stacks.push(value);
+        self.stacks.set_local(at as usize, value);
+        Ok(1)
+    }
+
+    fn global_get(&mut self, at: u32) -> Result<u64, Trap>
+        requires { Ready self.old (global_get at) }
+        ensures { Makes self.old (effect_of self.old (global_get at)) result self.new }
+    {
+        if !self.stacks.has_room(1) {
+            return Err(Trap {
+                kind: TOO_MANY_VALUES,
+            });
+        }
+        let value = self.globals[at as usize];
+        self.stacks.push(value);
+        Ok(1)
+    }
+
+    fn global_set(&mut self, at: u32) -> Result<u64, Trap>
+        requires { Ready self.old (global_set at) }
+        ensures { Makes self.old (effect_of self.old (global_set at)) result self.new }
+    {
+        let value = self.stacks.pop();
+        self.globals[at as usize] = value;
+        Ok(1)
+    }
+
+    fn memory_size(&mut self) -> Result<u64, Trap>
+        requires { Ready self.old memory_size }
+        ensures { Makes self.old (effect_of self.old memory_size) result self.new }
+    {
+        if !self.stacks.has_room(1) {
+            return Err(Trap {
+                kind: TOO_MANY_VALUES,
+            });
+        }
+        let pages = self.memory.size();
+        self.stacks.push(u64::from(pages));
+        Ok(1)
+    }
+
+    fn memory_grow(&mut self) -> Result<u64, Trap>
+        requires { Ready self.old memory_grow }
+        ensures { Makes self.old (effect_of self.old memory_grow) result self.new }
+    {
+        let more = self.stacks.pop() as u32;
+        let pages = self.memory.grow(more).unwrap_or(u32::MAX);
+        self.stacks.push(u64::from(pages));
+        Ok(1)
+    }
+
+    fn memory_copy(&mut self) -> Result<u64, Trap>
+        requires { Ready self.old memory_copy }
+        ensures { Makes self.old (effect_of self.old memory_copy) result self.new }
+    {
+        let len = self.stacks.pop();
+        let from = self.stacks.pop();
+        let to = self.stacks.pop();
+        if self.memory.copy_within(to, from, len) {
+            Ok(1 + len / 16)
+        } else {
+            Err(Trap {
+                kind: MEMORY_OUT_OF_BOUNDS,
+            })
+        }
+    }
+
+    fn memory_fill(&mut self) -> Result<u64, Trap>
+        requires { Ready self.old memory_fill }
+        ensures { Makes self.old (effect_of self.old memory_fill) result self.new }
+    {
+        let len = self.stacks.pop();
+        let value = self.stacks.pop();
+        let at = self.stacks.pop();
+        if self.memory.fill(at, (value % 256) as u8, len) {
+            Ok(1 + len / 16)
+        } else {
+            Err(Trap {
+                kind: MEMORY_OUT_OF_BOUNDS,
+            })
+        }
+    }
+
+    fn i32_const(&mut self, value: i32) -> Result<u64, Trap>
+        requires { Ready self.old (i32_const value) }
+        ensures { Makes self.old (effect_of self.old (i32_const value)) result self.new }
+    {
+        if !self.stacks.has_room(1) {
+            return Err(Trap {
+                kind: TOO_MANY_VALUES,
+            });
+        }
+        self.stacks.push(u64::from(value.cast_unsigned()));
+        Ok(1)
+    }
+
+    fn i64_const(&mut self, value: i64) -> Result<u64, Trap>
+        requires { Ready self.old (i64_const value) }
+        ensures { Makes self.old (effect_of self.old (i64_const value)) result self.new }
+    {
+        if !self.stacks.has_room(1) {
+            return Err(Trap {
+                kind: TOO_MANY_VALUES,
+            });
+        }
+        self.stacks.push(value.cast_unsigned());
+        Ok(1)
+    }
+
+    fn numeric(&mut self, op: u8) -> Result<u64, Trap>
+        requires { Ready self.old (numeric op) }
+        ensures { Makes self.old (effect_of self.old (numeric op)) result self.new }
+    {
+        match numeric_family(op) {
+            Some(NumericFamily::Unary(value)) => self.unary(op, value),
+            Some(NumericFamily::Binary(value)) => self.binary(op, value),
+            Some(NumericFamily::Test(value)) => self.test(op, value),
+            Some(NumericFamily::Comparison(value)) => self.comparison(op, value),
+            Some(NumericFamily::Conversion(..)) => self.conversion(op),
+            None => unreachable!(),
+        }
+    }
+
+    fn unary(&mut self, op: u8, value: ValType) -> Result<u64, Trap>
+        requires ready { Ready self.old (numeric op) }
+        requires family { numeric_of op ≡ Some (NumericFamily.Unary value) }
+        ensures { Makes self.old (effect_of self.old (numeric op)) result self.new }
+    {
+        let operand = self.stacks.pop();
+        let outcome = match value {
+            ValType::I32 => u64::from(i32_unary(op, operand as u32)),
+            ValType::I64 => i64_unary(op, operand),
+        };
+        self.stacks.push(outcome);
+        Ok(1)
+    }
+
+    fn binary(&mut self, op: u8, value: ValType) -> Result<u64, Trap>
+        requires ready { Ready self.old (numeric op) }
+        requires family { numeric_of op ≡ Some (NumericFamily.Binary value) }
+        ensures { Makes self.old (effect_of self.old (numeric op)) result self.new }
+    {
+        let second = self.stacks.pop();
+        let first = self.stacks.pop();
+        let outcome = match value {
+            ValType::I32 => u64::from(i32_binary(op, first as u32, second as u32)?),
+            ValType::I64 => i64_binary(op, first, second)?,
+        };
+        self.stacks.push(outcome);
+        Ok(1)
+    }
+
+    fn test(&mut self, op: u8, value: ValType) -> Result<u64, Trap>
+        requires ready { Ready self.old (numeric op) }
+        requires family { numeric_of op ≡ Some (NumericFamily.Test value) }
+        ensures { Makes self.old (effect_of self.old (numeric op)) result self.new }
+    {
+        let operand = self.stacks.pop();
+        let holds = match value {
+            ValType::I32 => i32_compare(op, operand as u32, 0),
+            ValType::I64 => i64_compare(op, operand, 0),
+        };
+        self.stacks.push(u64::from(holds));
+        Ok(1)
+    }
+
+    fn comparison(&mut self, op: u8, value: ValType) -> Result<u64, Trap>
+        requires ready { Ready self.old (numeric op) }
+        requires family { numeric_of op ≡ Some (NumericFamily.Comparison value) }
+        ensures { Makes self.old (effect_of self.old (numeric op)) result self.new }
+    {
+        let second = self.stacks.pop();
+        let first = self.stacks.pop();
+        let holds = match value {
+            ValType::I32 => i32_compare(op, first as u32, second as u32),
+            ValType::I64 => i64_compare(op, first, second),
+        };
+        self.stacks.push(u64::from(holds));
+        Ok(1)
+    }
+
+    fn conversion(&mut self, op: u8) -> Result<u64, Trap>
+        requires ready { Ready self.old (numeric op) }
+        requires family { IsConversion (numeric_of op) }
+        ensures { Makes self.old (effect_of self.old (numeric op)) result self.new }
+    {
+        let operand = self.stacks.pop();
+        self.stacks.push(convert(op, operand));
+        Ok(1)
+    }
+
+    fn load(&mut self, op: u8, exponent: u32, offset: u32) -> Result<u64, Trap>
+        requires { Ready self.old (load op exponent offset) }
+        ensures { Makes self.old (effect_of self.old (load op exponent offset)) result self.new }
+    {
+        let Some(access) = load_access(op) else {
+            unreachable!()
+        };
+        let at = self.stacks.pop() + u64::from(offset);
+        let Some(number) = self.memory.load(at, width_of(access)) else {
+            return Err(Trap {
+                kind: MEMORY_OUT_OF_BOUNDS,
+            });
+        };
+        self.stacks.push(extended(access, number));
+        Ok(1)
+    }
+
+    fn store(&mut self, op: u8, exponent: u32, offset: u32) -> Result<u64, Trap>
+        requires { Ready self.old (store op exponent offset) }
+        ensures { Makes self.old (effect_of self.old (store op exponent offset)) result self.new }
+    {
+        let Some(access) = store_access(op) else {
+            unreachable!()
+        };
+        let value = self.stacks.pop();
+        let at = self.stacks.pop() + u64::from(offset);
+        if self.memory.store(at, width_of(access), value) {
+            Ok(1)
+        } else {
+            Err(Trap {
+                kind: MEMORY_OUT_OF_BOUNDS,
+            })
+        }
+    }
+
+    /// An instruction that stays in its sequence: the cost of the row, or the trap.
+    pub fn apply(&mut self, instr: &Instr) -> Result<u64, Trap>
+        requires ready { Ready self.old (instruction_of instr.now) }
+        ensures { Makes self.old (effect_of self.old (instruction_of instr.now)) result self.new }
+    {
+        match instr {
+            Instr::Unreachable => Err(Trap { kind: UNREACHABLE }),
+            Instr::Nop => self.nop(),
+            Instr::Drop => self.discard(),
+            Instr::Select => self.select(),
+            Instr::LocalGet(at) => self.local_get(*at),
+            Instr::LocalSet(at) => self.local_set(*at),
+            Instr::LocalTee(at) => self.local_tee(*at),
+            Instr::GlobalGet(at) => self.global_get(*at),
+            Instr::GlobalSet(at) => self.global_set(*at),
+            Instr::Load(op, exponent, offset) => self.load(*op, *exponent, *offset),
+            Instr::Store(op, exponent, offset) => self.store(*op, *exponent, *offset),
+            Instr::MemorySize => self.memory_size(),
+            Instr::MemoryGrow => self.memory_grow(),
+            Instr::MemoryCopy => self.memory_copy(),
+            Instr::MemoryFill => self.memory_fill(),
+            Instr::I32Const(value) => self.i32_const(*value),
+            Instr::I64Const(value) => self.i64_const(*value),
+            Instr::Numeric(op) => self.numeric(*op),
+            Instr::Block(..) | Instr::Loop(..) | Instr::If(..) => unreachable!(),
+            Instr::Br(..) | Instr::BrIf(..) | Instr::BrTable(..) => unreachable!(),
+            Instr::Return | Instr::Call(..) | Instr::CallIndirect(..) => unreachable!(),
+        }
+    }
+}
+
+/// How many bytes are read or written.
+fn width_of(access: MemoryAccess) -> u8
+    requires { access.exponent ≤ 3 }
+    ensures power { result ≡ 2 ^ access.exponent }
+    ensures width { IsWidth result }
+{
+    match access.exponent {
+        0 => 1,
+        1 => 2,
+        2 => 4,
+        _ => 8,
+    }
+}
+
+/// The number that was read, in the width of its type.
+fn extended(access: MemoryAccess, number: u64) -> u64
+    requires narrow { IsNarrow access }
+    requires number { number < 2 ^ (8 * 2 ^ access.exponent) }
+    ensures { result ≡ extended access number }
+{
+    if !access.signed {
+        return number;
+    }
+    match (access.value, access.exponent) {
+        (ValType::I32, 0) => u64::from(i32::from((number as u8).cast_signed()).cast_unsigned()),
+        (ValType::I32, _) => u64::from(i32::from((number as u16).cast_signed()).cast_unsigned()),
+        (ValType::I64, 0) => i64::from((number as u8).cast_signed()).cast_unsigned(),
+        (ValType::I64, 1) => i64::from((number as u16).cast_signed()).cast_unsigned(),
+        (ValType::I64, _) => i64::from((number as u32).cast_signed()).cast_unsigned(),
+    }
+}
