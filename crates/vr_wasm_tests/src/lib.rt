@@ -14,6 +14,8 @@ mod components;
 #[cfg(test)]
 mod faults;
 #[cfg(test)]
+mod in_step;
+#[cfg(test)]
 mod limits;
 #[cfg(test)]
 mod numbers;

@@ -1,0 +1,2 @@
+pub mod Iovecs
+pub mod Layouts

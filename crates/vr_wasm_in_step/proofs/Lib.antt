@@ -1,0 +1,2 @@
+pub mod InStepLemmas
+pub mod KeptLemmas
