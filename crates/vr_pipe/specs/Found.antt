@@ -14,6 +14,7 @@ pub record Found : Type 0 where
   pub programs : List (List ℕ)
   pub tests : List (List ℕ)
 
+-- what is found before the first piece
 abbrev pub nothing_found : Found
 nothing_found = record { programs = []; tests = [] }
 

@@ -101,6 +101,7 @@ pub record State : Type 0 where
   pub frames : List Frame
   pub found : Found
 
+-- the state of the parser that the code keeps
 abbrev pub state_of : Parser → State
 state_of p = record { focus = p.focus; frames = p.frames; found = p.paths }
 
@@ -132,6 +133,7 @@ parse_from end state (p ∷ ps) = do
   after ← advance p.0 state p.1
   parse_from end after ps
 
+-- the state before the first piece, where a place must come
 abbrev pub at_start : State
 at_start = record { focus = Place; frames = []; found = nothing_found }
 

@@ -50,6 +50,7 @@ pieces_from at within (b ∷ bs) =
 abbrev pub pieces_at : List ℕ → List (ℕ × Piece)
 pieces_at text = pieces_from 0 false text
 
+-- the words and signs alone
 abbrev pub without_offsets : List (ℕ × Piece) → List Piece
 without_offsets ps = map (λ p. p.1) ps
 

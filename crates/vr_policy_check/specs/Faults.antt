@@ -14,6 +14,7 @@ abbrev pub told_by_kind : {F : Type 0} → CheckKind → F → Told F
 told_by_kind OutOfMemory fault = nothing
 told_by_kind kind fault = exactly fault
 
+-- what a fault of the code tells of the policy
 abbrev pub told : CheckFault → Told CheckFault
 told fault = told_by_kind fault.kind fault
 

@@ -17,15 +17,19 @@ use Rattle.vr_policy_check.specs.Repeats.{first_repeat}
 
 -- ---- what the rules look at
 
+-- the identities' ids, in the policy's order
 abbrev pub identity_ids : PolicyData → List ℕ
 identity_ids policy = map (λ identity. identity.id) policy.identities
 
+-- the programs' names, in normal form
 abbrev pub program_names : PolicyData → List (List ℕ)
 program_names policy = map (λ program. program.name) policy.programs
 
+-- the pipelines' ids
 abbrev pub pipeline_ids : PolicyData → List ℕ
 pipeline_ids policy = map (λ pipeline. pipeline.id) policy.pipelines
 
+-- the paths whose hashes are pinned
 abbrev pub pin_paths : PolicyData → List (List ℕ)
 pin_paths policy = map (λ pin. pin.path) policy.pins
 
@@ -34,6 +38,7 @@ abbrev pub grant_lists : PolicyData → List (List (List ℕ × ℕ))
 grant_lists policy =
     map (λ identity. identity.grants) policy.identities ++ map (λ program. program.grants) policy.programs
 
+-- the names in a list of grants
 abbrev pub grant_names : List (List ℕ × ℕ) → List (List ℕ)
 grant_names grants = map (λ grant. grant.0) grants
 
