@@ -1,4 +1,5 @@
--- The faults of the rules on a policy, and what an error of a call that checks one tells of the answer.
+-- The faults of the rules on a policy, and what an error of a call that
+-- checks one tells of the answer.
 use Rattle.std.specs.Prelude.{ℕ, Result}
 use Rattle.vr_base.specs.Checks.{Told, nothing, exactly, GivesBy}
 use Rattle.vr_policy_check.specs.declared.faults.CheckKind.{CheckKind}
