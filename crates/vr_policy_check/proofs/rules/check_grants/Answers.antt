@@ -1,10 +1,11 @@
-use Rattle.std.proofs.Common.{ℕ, List, Option, Bool, is_some, bytes_eq, ap, sym, ◌∙◌, subst, arith, below_more}
+use Rattle.std.proofs.Common.{ℕ, List, [], Option, Bool, is_some, bytes_eq, ap, sym, ◌∙◌, subst, arith, below_more}
+use Rattle.vr_base.proofs.Places.{first_passes, passes_none}
 use Rattle.vr_policy_read.specs.PolicyData.{IsShort}
 use Rattle.vr_policy_check.specs.declared.faults.CheckKind.TheVariants.{GrantTwice}
 use Rattle.vr_policy_check.specs.Faults.{Gives}
 use Rattle.vr_policy_check.specs.Repeats.{first_repeat}
 use Rattle.vr_policy_check.specs.Rules.{rule, grant_lists, grant_names}
-use Rattle.vr_policy_check.proofs.GrantLemmas.{position_at, position_none, item_of, as_many, referred}
+use Rattle.vr_policy_check.proofs.GrantLemmas.{item_of, as_many, referred}
 use Rattle.vr_policy_check.proofs.rules.check_grants.Goals as goal
 
 abbrev has_twice : List (List ℕ × ℕ) → Bool
@@ -28,7 +29,7 @@ returns-then-branch c =
     c.loop-at.at c.grants-item.result c.loop-at-test.true c.grants-item.is in
     let here = ap has_twice (item.is c.grants-item.result.now) ∙ sym c.in_ok-has_repeat.ensures ∙ c.if-branch.true in
     let P : Option ℕ → Type 0 = λ failing. Gives c.rule.result (rule GrantTwice failing) in
-    subst P (sym (position_at has_twice (grant_lists c.args.policy.now) c.loop-at.at c.grants-item.result.now item.within c.loop-at.invariant here)) c.rule.ensures
+    subst P (sym (first_passes has_twice (grant_lists c.args.policy.now) c.loop-at.at c.grants-item.result.now item.within here (λ k below. c.loop-at.invariant k below c.grants-item.result.now))) c.rule.ensures
 
 pub loop-at-preserved : goal.loop-at-preserved
 loop-at-preserved c =
@@ -40,4 +41,4 @@ pub returns : goal.returns
 returns c =
     let many = as_many c.deref-grants-items.result.now (grant_lists c.args.policy.now)
     (referred c.deref-grants-items.result.now _ (grant_lists c.args.policy.now) c.deref-grants-items.ensures.value c.in_ok-lists.ensures.lists) in
-    ap (rule GrantTwice) (position_none has_twice (grant_lists c.args.policy.now) (λ k within. c.loop-at.invariant k (omega (arith, within, many, c.loop-at-test.false))))
+    ap (rule GrantTwice) (passes_none has_twice (grant_lists c.args.policy.now) [] (λ k within. c.loop-at.invariant k (omega (arith, within, many, c.loop-at-test.false)) []))
