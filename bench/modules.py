@@ -1,5 +1,5 @@
-"""Times decoding of large modules; what modules.sh calls."""
-import os, random, shutil, sys, tempfile
+"""Times decoding and validation of large modules; what modules.sh calls."""
+import os, random, shutil, subprocess, sys, tempfile
 from timing import best
 
 program, runs = os.path.abspath(sys.argv[1]), int(sys.argv[2])
@@ -65,10 +65,12 @@ def blocks(draw, count):
 
 
 def exports(draw, count):
-    names = {b"f%d" % draw.randrange(10**9) for _ in range(count)}
+    names = set()
     while len(names) < count:
         names.add(b"f%d" % draw.randrange(10**9))
-    return module([b"\0\x20\0\x0b"], sorted(names, key=lambda name: draw.random()))
+    shuffled = sorted(names)
+    draw.shuffle(shuffled)
+    return module([b"\0\x20\0\x0b"], shuffled)
 
 
 def locals_(draw, count):
@@ -84,6 +86,11 @@ CASES = [
     ("8,192 locals in 65,536 functions", locals_, 65536),
 ]
 
+
+def found_valid(path):
+    return subprocess.run([program, path], capture_output=True, text=True).stdout == f"{path}: valid\n"
+
+
 wabt = shutil.which("wasm-validate")
 if not wabt:
     print("wasm-validate is not installed (apt-get install wabt), so there is nothing to compare with")
@@ -96,6 +103,7 @@ with tempfile.TemporaryDirectory() as folder:
             assert len(text) <= MOST_BYTES, title
             with open(path, "wb") as f:
                 f.write(text)
+            assert found_valid(path), title
             took.append(best(program, [path], runs))
         line = f"{title} ({len(text)} bytes): {took[1]:.3f} s, {took[1] / took[0]:.1f} times a quarter's"
         if wabt:

@@ -1,6 +1,6 @@
 #!/bin/sh
-# Decodes modules made by a seeded generator, each at two sizes, and prints seconds of processor time, how these grow for
-# four times the bytes, and how they compare with wasm-validate of Debian's wabt where that is installed.
+# Decodes and validates modules made by a seeded generator, each at two sizes, and prints seconds of processor time, how
+# these grow for four times the bytes, and how they compare with wasm-validate of Debian's wabt where that is installed.
 #   bench/modules.sh [RUNS]
 set -eu
 cd "$(dirname "$0")/.."

@@ -1,3 +1,4 @@
+pub mod FaultLemmas
 pub mod Letters
 pub mod Longest
 pub mod Masks

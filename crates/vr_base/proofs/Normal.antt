@@ -8,6 +8,7 @@ use Rattle.vr_base.specs.Names.{normal_form, from_root, is_name_byte, name_fault
 use Rattle.vr_base.specs.Checks.{unless_fault}
 use Rattle.vr_base.specs.declared.names.PathFault.{PathFault}
 use Rattle.vr_base.specs.declared.names.PathFault.TheVariants.{BadByte}
+use Rattle.vr_base.proofs.FaultLemmas.{neither, none_mapped}
 use Rattle.vr_base.proofs.Places.{none_passes, passes_none}
 
 abbrev is_bad : ℕ → Bool
@@ -42,20 +43,12 @@ normal_from_root (b ∷ bs) = by_test (eqb 47 b) refl
 pub normal_form-normal_form : (name : List ℕ) → normal_form (normal_form name) ≡ normal_form name
 normal_form-normal_form name = normal_from_root (shortened name)
 
-none_byte : (o : Option ℕ) → option_map BadByte o ≡ None → o ≡ None
-none_byte None h = refl
-none_byte (Some at) h = cc
-
-none_or : (a b : Option PathFault) → option_or a b ≡ None → (a ≡ None) × (b ≡ None)
-none_or None b h = (refl, h)
-none_or (Some f) b h = cc
-
 -- a name without a fault is without one in its normal form
 pub without_fault : (parts : List ℕ → List (List ℕ)) (name : List ℕ) → name_fault name (parts (normal_form name)) ≡ None
     → unless_fault (name_fault (normal_form name) (parts (normal_form (normal_form name)))) (normal_form (normal_form name)) ≡ Ok (normal_form name)
 without_fault parts name h =
-    let outer = none_or (length_fault (normal_form name)) _ h in
-    let inner = none_or (byte_fault name) _ outer.1 in
-    let good = normal_form_good name (none_passes is_bad name (none_byte _ inner.0)) in
-    let bytes : byte_fault (normal_form name) ≡ None = ap (option_map BadByte) (passes_none is_bad (normal_form name) good) in
+    let outer = neither (length_fault (normal_form name)) _ h in
+    let inner = neither (byte_fault name) _ outer.1 in
+    let good = normal_form_good name (none_passes is_bad name (none_mapped BadByte _ inner.0)) in
+    let bytes : byte_fault (normal_form name) ≡ None = ap (option_map BadByte) (passes_none is_bad (normal_form name) 0 (λ k l. good k 0 l)) in
     rw (normal_form-normal_form name, outer.0, bytes, inner.1) refl

@@ -3,13 +3,13 @@ use Rattle.std.proofs.Common.{◌≡◌, ◌≢◌, ℕ, ◌<◌, Bool, true, fa
 use Rattle.std.specs.List.{position_or_len}
 use Rattle.std.proofs.lemmas.List.Sums.{position_or_len_is, fails_before_first}
 use Rattle.std.proofs.lemmas.List.Splits.{slice_split_at, slice_split_none}
-use Rattle.std.proofs.lemmas.Bool.{ltb-false, le-ltb, ne_eqb, eq-eqb}
+use Rattle.std.proofs.lemmas.Bool.{ltb-false, le-ltb, lt-ltb, ne_eqb, eq-eqb}
 use Rattle.std.proofs.lemmas.List.{take-append-drop, take_rest}
 use Rattle.vr_base.specs.Cuts.{parts_at, IsFirstPlace}
 
-module _ (p : ℕ → Bool) where
+module _ {X : Type 0} (p : X → Bool) where
   -- no element passes where no place does
-  pub none_passes : (xs : List ℕ) → position p xs ≡ None → All (λ x. p x ≡ false) xs
+  pub none_passes : (xs : List X) → position p xs ≡ None → All (λ x. p x ≡ false) xs
   none_passes xs h = from_test (ltb (position_or_len p xs) (length xs)) refl h
     where
       from_test : (t : Bool) → ltb (position_or_len p xs) (length xs) ≡ t → cond t (Some (position_or_len p xs)) None ≡ None → All (λ x. p x ≡ false) xs
@@ -17,10 +17,16 @@ module _ (p : ℕ → Bool) where
       from_test false e k = λ i d l. fails_before_first p xs i d (omega (arith, ltb-false _ _ e))
 
   -- no place passes where no element does
-  pub passes_none : (xs : List ℕ) → All (λ x. p x ≡ false) xs → position p xs ≡ None
-  passes_none xs h =
-      let whole : position_or_len p xs ≡ length xs = position_or_len_is p xs (length xs) 0 (omega arith) (λ k l. h k 0 l) (λ l. absurd (omega arith)) in
+  pub passes_none : (xs : List X) (d : X) → ((k : ℕ) → k < length xs → p (get_or xs k d) ≡ false) → position p xs ≡ None
+  passes_none xs d h =
+      let whole : position_or_len p xs ≡ length xs = position_or_len_is p xs (length xs) d (omega arith) h (λ l. absurd (omega arith)) in
       rw whole (rw (le-ltb (length xs) (length xs) (omega arith)) refl)
+
+  -- the place of an element that passes, where none before it does
+  pub first_passes : (xs : List X) (i : ℕ) (d : X) → i < length xs → p (get_or xs i d) ≡ true → ((k : ℕ) → k < i → p (get_or xs k d) ≡ false) → position p xs ≡ Some i
+  first_passes xs i d within here before =
+      let first : position_or_len p xs ≡ i = position_or_len_is p xs i d (omega (arith, within)) before (λ _. here) in
+      rw first (rw (lt-ltb i (length xs) within) refl)
 
 pub parts_whole : (sign : ℕ) (bytes : List ℕ) → All (λ b. b ≢ sign) bytes → parts_at sign bytes ≡ bytes ∷ []
 parts_whole sign bytes h = slice_split_none (λ b. eqb b sign) bytes (λ k d i. ne_eqb _ sign (h k d i))

@@ -24,8 +24,8 @@ reply_number OutOfMemory = 12
 reply_number Unkeyed = 13
 reply_number (QuotaReached name size) = 14
 
--- Whether a call that is answered so was made, and has its entry in the history: without the keeper, or without memory,
--- it was not.
+-- Whether a call that is answered so was made, and has its entry in the history: without the
+-- keeper, or without memory, it was not.
 abbrev pub is_made : Reply → Bool
 is_made Unavailable = false
 is_made OutOfMemory = false

@@ -11,6 +11,7 @@ pub record HasCause {T E : Type 0} (before now : ℕ) (result : Result T E) : Ty
   pub failed : OnErr result (Rose before now)
 
 -- The count never falls, and this one error came only where it rose.
-pub record HasCauseOf {T E : Type 0} (fault : E) (before now : ℕ) (result : Result T E) : Type 0 where
+pub record HasCauseOf {T E : Type 0} (fault : E) (before now : ℕ) (result : Result T E)
+    : Type 0 where
   pub later : before ≤ now
   pub failed : result ≡ Err fault → Rose before now

@@ -1,4 +1,5 @@
--- Answers that stop at the first check which fails, and what a call's result tells of the answer that a definition gives.
+-- Answers that stop at the first check which fails, and what a call's result tells of the
+-- answer that a definition gives.
 use Rattle.std.specs.Prelude.{◌≡◌, Bool, true, false, Option, Some, None, Result, Ok, Err}
 use Rattle.std.specs.Borrow.{Bor}
 

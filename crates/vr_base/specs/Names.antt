@@ -19,7 +19,9 @@ most_segment = 255
 
 -- a letter, a digit, or one of the signs . _ - /
 abbrev pub is_name_byte : ℕ → Bool
-is_name_byte b = is_ascii_alphanumeric b || (b == full_stop) || (b == low_line) || (b == hyphen) || (b == slash)
+is_name_byte b =
+    is_ascii_alphanumeric b
+    || (b == full_stop) || (b == low_line) || (b == hyphen) || (b == slash)
 
 -- a name with a / before it, where it begins with none
 abbrev pub from_root : List ℕ → List ℕ
@@ -37,10 +39,13 @@ names_directory path = ends_with nat_eq path (codes "/")
 abbrev pub segments : List ℕ → List (List ℕ)
 segments path = parts_at slash (drop 1 path)
 
--- the segments of a normal form; of a directory those of what stands before its last /, none where nothing does
+-- the segments of a normal form; of a directory those of what stands before its
+-- last /, none where nothing does
 abbrev pub grant_segments : List ℕ → List (List ℕ)
 grant_segments path =
-    if names_directory path then (if nat_lt 1 (length path) then segments (take (length path - 1) path) else []) else segments path
+    if names_directory path
+    then (if nat_lt 1 (length path) then segments (take (length path - 1) path) else [])
+    else segments path
 
 -- what is wrong with one segment
 abbrev pub segment_fault : List ℕ → Option PathFault
@@ -52,7 +57,8 @@ segment_fault segment =
 -- what is wrong with the first bad segment
 abbrev pub first_segment_fault : List (List ℕ) → Option PathFault
 first_segment_fault [] = None
-first_segment_fault (segment ∷ others) = option_or (segment_fault segment) (first_segment_fault others)
+first_segment_fault (segment ∷ others) =
+    option_or (segment_fault segment) (first_segment_fault others)
 
 -- a normal form is too long
 abbrev pub length_fault : List ℕ → Option PathFault
@@ -64,7 +70,9 @@ byte_fault name = option_map BadByte (position (λ b. not (is_name_byte b)) name
 
 -- the first fault of a name: its length, then its bytes, then its segments from left to right
 abbrev pub name_fault : List ℕ → List (List ℕ) → Option PathFault
-name_fault name parts = option_or (length_fault (normal_form name)) (option_or (byte_fault name) (first_segment_fault parts))
+name_fault name parts =
+    option_or (length_fault (normal_form name))
+    (option_or (byte_fault name) (first_segment_fault parts))
 
 -- the path that a name stands for, or its first fault
 abbrev pub path_of : List ℕ → Result (List ℕ) PathFault
@@ -72,12 +80,15 @@ path_of name = unless_fault (name_fault name (segments (normal_form name))) (nor
 
 -- the path or the directory that a grant's name stands for, or its first fault
 abbrev pub grant_of : List ℕ → Result (List ℕ) PathFault
-grant_of name = unless_fault (name_fault name (grant_segments (normal_form name))) (normal_form name)
+grant_of name =
+    unless_fault (name_fault name (grant_segments (normal_form name))) (normal_form name)
 
 -- a path covers itself, and a directory every longer path that begins with it
 abbrev pub covers : List ℕ → List ℕ → Bool
 covers grant path =
-    if names_directory grant then starts_with nat_eq path grant && nat_lt (length grant) (length path) else bytes_eq grant path
+    if names_directory grant
+    then starts_with nat_eq path grant && nat_lt (length grant) (length path)
+    else bytes_eq grant path
 
 -- it is the path that it stands for itself
 abbrev pub IsPath : List ℕ → Type 0

@@ -10,9 +10,11 @@ abbrev pub file_of : List ℕ → List (List ℕ × List ℕ) → Option (List �
 file_of name [] = None
 file_of name (file ∷ files) = if bytes_eq file.0 name then Some file.1 else file_of name files
 
--- Where the files are told, the named one is there, and these are its first bytes, as many as asked for.
+-- Where the files are told, the named one is there, and these are its first
+-- bytes, as many as asked for.
 abbrev pub Holds : Option (List (List ℕ × List ℕ)) → List ℕ → ℕ → List ℕ → Type 0
-Holds files name most bytes = IfSome files (λ fs. option_map (take most) (file_of name fs) ≡ Some bytes)
+Holds files name most bytes =
+    IfSome files (λ fs. option_map (take most) (file_of name fs) ≡ Some bytes)
 
 -- Where the files are told, the named one is not there.
 abbrev pub IsNotThere : Option (List (List ℕ × List ℕ)) → List ℕ → Type 0
@@ -24,7 +26,8 @@ pub record FolderCounts : Type 0 where
   pub faults : ℕ
 
 -- No count falls, and an absent file and a failed read are answered only where their count rose.
-pub record HasFolderCause (before now : FolderCounts) (result : Result (List ℕ) FolderFault) : Type 0 where
+pub record HasFolderCause (before now : FolderCounts) (result : Result (List ℕ) FolderFault)
+    : Type 0 where
   pub absent : HasCauseOf Absent before.absences now.absences result
   pub failed : HasCauseOf Failed before.faults now.faults result
 

@@ -3,7 +3,8 @@ use Rattle.std.specs.Prelude.{◌≡◌, ℕ, Bool, true, not, nat_lt, ◌&&◌,
 use Rattle.vr_base.specs.Names.{covers}
 use Rattle.vr_base.specs.Signs.{letter_r, letter_w, letter_x}
 
--- ---- the bits: as WASI preview 1 numbers its rights, and one of this runtime's own to execute a program
+-- ---- the bits: as WASI preview 1 numbers its rights, and one of this
+-- runtime's own to execute a program
 
 abbrev pub fd_read : ℕ
 fd_read = 1
@@ -44,10 +45,14 @@ execute = 30
 -- each right that has a meaning: its bit and its name, in rising order
 abbrev pub rights : List (ℕ × List ℕ)
 rights =
-    (fd_read, codes "fd_read") ∷ (fd_seek, codes "fd_seek") ∷ (fd_tell, codes "fd_tell") ∷ (fd_write, codes "fd_write")
-    ∷ (path_create_file, codes "path_create_file") ∷ (path_open, codes "path_open") ∷ (path_filestat_get, codes "path_filestat_get")
-    ∷ (path_filestat_set_size, codes "path_filestat_set_size") ∷ (fd_filestat_get, codes "fd_filestat_get")
-    ∷ (fd_filestat_set_size, codes "fd_filestat_set_size") ∷ (path_unlink_file, codes "path_unlink_file")
+    (fd_read, codes "fd_read") ∷ (fd_seek, codes "fd_seek") ∷ (fd_tell, codes "fd_tell")
+    ∷ (fd_write, codes "fd_write")
+    ∷ (path_create_file, codes "path_create_file") ∷ (path_open, codes "path_open")
+    ∷ (path_filestat_get, codes "path_filestat_get")
+    ∷ (path_filestat_set_size, codes "path_filestat_set_size")
+    ∷ (fd_filestat_get, codes "fd_filestat_get")
+    ∷ (fd_filestat_set_size, codes "fd_filestat_set_size")
+    ∷ (path_unlink_file, codes "path_unlink_file")
     ∷ (execute, codes "execute") ∷ []
 
 abbrev pub right_bits : List ℕ
@@ -103,12 +108,14 @@ execute_rights = word_of (execute ∷ [])
 
 -- the rights of a reader: r
 abbrev pub reader_rights : ℕ
-reader_rights = word_of (fd_read ∷ fd_seek ∷ fd_tell ∷ path_open ∷ path_filestat_get ∷ fd_filestat_get ∷ [])
+reader_rights =
+    word_of (fd_read ∷ fd_seek ∷ fd_tell ∷ path_open ∷ path_filestat_get ∷ fd_filestat_get ∷ [])
 
 -- the rights of a writer: w
 abbrev pub writer_rights : ℕ
 writer_rights =
-    word_of (fd_seek ∷ fd_write ∷ path_create_file ∷ path_open ∷ path_filestat_set_size ∷ fd_filestat_set_size ∷ [])
+    word_of (fd_seek ∷ fd_write ∷ path_create_file ∷ path_open
+    ∷ path_filestat_set_size ∷ fd_filestat_set_size ∷ [])
 
 -- the word that a letter stands for: r, w or x
 abbrev pub letter_word : ℕ → Option ℕ
@@ -120,7 +127,8 @@ letter_word letter =
 -- the union of the words of a text's letters, where each byte is one
 abbrev pub letters_word : List ℕ → Option ℕ
 letters_word [] = Some 0
-letters_word (letter ∷ letters) = option_and_then (λ word. option_map (bit_or word) (letters_word letters)) (letter_word letter)
+letters_word (letter ∷ letters) =
+    option_and_then (λ word. option_map (bit_or word) (letters_word letters)) (letter_word letter)
 
 -- ---- the word of a list of grants on a path
 
@@ -134,7 +142,8 @@ covering_grants path grants = filter (λ grant. covers grant.0 path) grants
 
 -- the first grant whose name is as long as the longest
 abbrev pub longest_grant : List (List ℕ × ℕ) → Option (List ℕ × ℕ)
-longest_grant grants = find (λ grant. length grant.0 == greatest_of (map (λ g. length g.0) grants)) grants
+longest_grant grants =
+    find (λ grant. length grant.0 == greatest_of (map (λ g. length g.0) grants)) grants
 
 -- whether a grant's name is longer than that of the best grant so far
 abbrev pub is_longer : Option (List ℕ × ℕ) → List ℕ × ℕ → Bool
@@ -143,4 +152,5 @@ is_longer (Some best) grant = nat_lt (length best.0) (length grant.0)
 
 -- the word of the longest grant that covers the path, the first of equal names, or 0
 abbrev pub word_on : List ℕ → List (List ℕ × ℕ) → ℕ
-word_on path grants = unwrap_or (option_map (λ grant. grant.1) (longest_grant (covering_grants path grants))) 0
+word_on path grants =
+    unwrap_or (option_map (λ grant. grant.1) (longest_grant (covering_grants path grants))) 0

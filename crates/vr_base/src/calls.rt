@@ -20,7 +20,8 @@ pub enum Call {
     Hash,
 }
 
-/// Why the bytes of a program are no program: the fault of the decoder, of the validator or of the linker.
+/// Why the bytes of a program are no program: the fault of the decoder, of
+/// the validator or of the linker.
 #[derive(Clone, Copy, Debug, PartialEq, Eq)]
 pub enum Why {
     /// The decoder's kind of fault, and the offset in the bytes.
@@ -47,7 +48,8 @@ pub enum Reply {
     NoSuchPipeline { id: u32 },
     /// A pinned file that the pipeline could observe is not there.
     PinMissing { path: Path },
-    /// A pinned file that the pipeline could observe has another hash, which is found here in lower-case hex digits.
+    /// A pinned file that the pipeline could observe has another hash, which is found
+    /// here in lower-case hex digits.
     PinMismatch { path: Path, found: [u8; 64] },
     /// The size in bytes that the file would have had, at most 2^64 - 1.
     TooLarge { size: u64 },
@@ -136,7 +138,8 @@ impl Reply {
     }
 }
 
-/// One call in the history: the seat by which it came, the identity that called, what it asked and the answer.
+/// One call in the history: the seat by which it came, the identity that called,
+/// what it asked and the answer.
 #[derive(Debug, Drop)]
 pub struct Entry {
     pub seat: u32,

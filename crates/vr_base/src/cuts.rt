@@ -14,7 +14,8 @@ fn place_of(bytes: &[u8], sign: u8) -> Option<usize>
 pub fn cut_at(bytes: &[u8], sign: u8) -> (&[u8], Option<&[u8]>)
     ensures whole { Rejoins sign bytes.now result.0.now (option_copied result.1) }
     ensures first { All (λ b. b ≢ sign) result.0.now }
-    ensures parts { parts_at sign bytes.now ≡ result.0.now ∷ parts_left sign (option_copied result.1) }
+    ensures parts { parts_at sign bytes.now
+        ≡ result.0.now ∷ parts_left sign (option_copied result.1) }
     ensures shorter { IfSome result.1 (λ rest. length rest.now < length bytes.now) }
 {
     match place_of(bytes, sign) {

@@ -4,7 +4,8 @@ ghost use Rattle.vr_base.specs.declared.calls.Entry.{Entry};
 
 use crate::calls::{Call, Front, Reply};
 
-/// Where calls are handed in, one after the other, from one seat. Other seats' calls may be made between them.
+/// Where calls are handed in, one after the other, from one seat. Other seats'
+/// calls may be made between them.
 pub trait Desk {
     /// What the history begins with, in the desk's own terms.
     ghost Origin: { Type 0 };
@@ -23,8 +24,9 @@ pub trait Desk {
     /// How often it had failed as the last call began.
     ghost found: { Self → ℕ };
 
-    /// Makes a call of an identity and answers it, with the length of the history that the seat has seen then. A call
-    /// that is answered `Unavailable` or `OutOfMemory` was not made and has no entry.
+    /// Makes a call of an identity and answers it, with the length of the history that
+    /// the seat has seen then. A call that is answered `Unavailable` or `OutOfMemory`
+    /// was not made and has no entry.
     fn ask(&mut self, who: u32, call: Call) -> (Reply, Front)
         ensures seat { seat self.new ≡ seat self.old }
         ensures origin { origin self.new ≡ origin self.old }

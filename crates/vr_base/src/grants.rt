@@ -8,7 +8,8 @@ use crate::names::{GrantName, Path};
 use crate::rights::RightsWord;
 use std::marker::Model;
 
-/// The grants of an identity or a program: names, each with a rights word. Contracts see them as the list of these.
+/// The grants of an identity or a program: names, each with a rights word. Contracts
+/// see them as the list of these.
 #[derive(Debug, Drop)]
 pub struct Grants {
     items: Vec<(GrantName, RightsWord)>,
@@ -46,7 +47,8 @@ impl Grants {
         Ok(Grants { items })
     }
 
-    /// The word of the longest grant that covers the path, or the empty word. Of grants with one name the first counts.
+    /// The word of the longest grant that covers the path, or the empty word. Of grants
+    /// with one name the first counts.
     pub fn word_on(&self, path: &Path) -> RightsWord
         ensures { result ≡ word_on path.now self.now }
     {

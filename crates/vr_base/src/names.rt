@@ -19,13 +19,14 @@ pub const MOST_NAME: usize = 1024;
 /// The most bytes of a segment of a name.
 pub const MOST_SEGMENT: usize = 255;
 
-/// Why a name stands for no path, or for no grant's name. Of several faults the first in this order is answered: its
-/// length, its bytes, then its segments from left to right.
+/// Why a name stands for no path, or for no grant's name. Of several faults the first in this order
+/// is answered: its length, its bytes, then its segments from left to right.
 #[derive(Clone, Copy, Debug, PartialEq, Eq)]
 pub enum PathFault {
     /// A segment has no bytes.
     EmptySegment,
-    /// The first byte that is no letter, no digit and none of `.`, `_`, `-` and `/`, by its offset in the name as given.
+    /// The first byte that is no letter, no digit and none of `.`, `_`, `-` and `/`, by its
+    /// offset in the name as given.
     BadByte(u32),
     /// A segment is `.` or `..`.
     DotSegment,
@@ -45,8 +46,8 @@ impl From<AllocError> for PathFault {
     }
 }
 
-/// The path of a file: it begins with `/`, and its segments are neither empty nor `.` nor `..`. Contracts see it as its
-/// bytes.
+/// The path of a file: it begins with `/`, and its segments are neither empty nor `.` nor `..`.
+/// Contracts see it as its bytes.
 #[derive(Debug, Drop)]
 pub struct Path {
     bytes: Vec<u8>,
@@ -118,7 +119,8 @@ impl Ord for Path {
     }
 }
 
-/// The name of a grant: a path, or a directory, which is `/` or a path and a `/`. Contracts see it as its bytes.
+/// The name of a grant: a path, or a directory, which is `/` or a path and a `/`.
+/// Contracts see it as its bytes.
 #[derive(Debug, Drop)]
 pub struct GrantName {
     bytes: Vec<u8>,
@@ -157,8 +159,8 @@ impl GrantName {
         ends_in_slash(&self.bytes)
     }
 
-    /// Whether the grant is one on this path: a path covers itself alone, a directory each longer path that begins
-    /// with it.
+    /// Whether the grant is one on this path: a path covers itself alone, a directory each
+    /// longer path that begins with it.
     pub fn covers(&self, path: &Path) -> bool
         ensures { result ≡ covers self.now path.now }
     {
@@ -221,8 +223,8 @@ fn check_path_segments(path: &[u8]) -> Option<PathFault>
     check_segments(&path[1..])
 }
 
-/// What is wrong with the first bad segment of a grant's name in normal form, where a directory's are those before its
-/// last `/`.
+/// What is wrong with the first bad segment of a grant's name in normal form, where a directory's
+/// are those before its last `/`.
 fn check_grant_segments(path: &[u8]) -> Option<PathFault>
     requires { 0 < length path.now }
     ensures { result ≡ first_segment_fault (grant_segments path.now) }

@@ -48,8 +48,8 @@ pub trait Source {
     /// Of a source that is a half of a link, what the other half tells.
     ghost beside: { Self → Beside };
 
-    /// Fills a prefix of the buffer and answers how many bytes it gave. No byte for a buffer that isn't empty is the
-    /// end. A read that fails leaves what is left.
+    /// Fills a prefix of the buffer and answers how many bytes it gave. No byte for a buffer that
+    /// isn't empty is the end. A read that fails leaves what is left.
     fn read(&mut self, into: &mut [u8]) -> Result<usize, Failed>
         ensures given { IfOk result (λ count. count ≤ length into.new) }
         ensures bytes { ReadConsumes (left self.old) (left self.new) result into.new }
@@ -68,8 +68,8 @@ pub trait Sink {
     /// Of a sink that is a half of a link, what the other half tells.
     ghost beside: { Self → Beside };
 
-    /// Takes a prefix of the piece and answers how many bytes it took, at least one of a piece that isn't empty.
-    /// A write that fails leaves what was written.
+    /// Takes a prefix of the piece and answers how many bytes it took, at least one of a piece that
+    /// isn't empty. A write that fails leaves what was written.
     fn write(&mut self, piece: &[u8]) -> Result<usize, Failed>
         ensures taken { IfOk result (λ count. Takes count (length piece.now)) }
         ensures bytes { WriteAppends (written self.old) (written self.new) result piece.now }
@@ -77,17 +77,19 @@ pub trait Sink {
         ensures cause { HasCause (faults self.old) (faults self.new) result };
 }
 
-/// A connection: what is read from it and what is written to it. Its two counts of faults are one, and each half knows
-/// what the other tells.
+/// A connection: what is read from it and what is written to it. Its two counts of faults are one,
+/// and each half knows what the other tells.
 pub trait Link: Source + Sink {
     /// All the bytes that the link was given to read, where it tells them. No call changes them.
     ghost input: { Self → Option (List ℕ) };
 
     ghost one_count: { (link : Self) → Self.Source.faults link ≡ Self.Sink.faults link };
 
-    ghost beside_source: { (link : Self) → Self.Source.beside link ≡ beside_of (Self.written link) (input link) };
+    ghost beside_source: { (link : Self) →
+        Self.Source.beside link ≡ beside_of (Self.written link) (input link) };
 
-    ghost beside_sink: { (link : Self) → Self.Sink.beside link ≡ beside_of (Self.left link) (input link) };
+    ghost beside_sink: { (link : Self) →
+        Self.Sink.beside link ≡ beside_of (Self.left link) (input link) };
 }
 
 /// Hands out connections and takes them back.

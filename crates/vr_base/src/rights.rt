@@ -3,8 +3,8 @@ ghost use Rattle.vr_base.specs.Rights.{known_rights, has_bit, missing_right, let
 
 use std::marker::Model;
 
-// The bits of a rights word that have a meaning: as WASI preview 1 numbers its rights, and one of this runtime's own to
-// execute a program.
+// The bits of a rights word that have a meaning: as WASI preview 1 numbers its rights, and one of
+// this runtime's own to execute a program.
 pub const FD_READ: u8 = 1;
 
 pub const FD_SEEK: u8 = 2;
@@ -136,8 +136,8 @@ impl Right {
     }
 }
 
-/// The rights that a grant gives: a word of bits, of which only those with a meaning are kept. Contracts see it as that
-/// number.
+/// The rights that a grant gives: a word of bits, of which only those with a meaning are kept.
+/// Contracts see it as that number.
 #[derive(Clone, Copy, Debug, PartialEq, Eq)]
 pub struct RightsWord {
     word: u32,
@@ -174,8 +174,8 @@ impl RightsWord {
         self.word
     }
 
-    /// The union of the rights of the letters: `r` reads, `w` writes, `x` executes. None where another byte is among
-    /// them.
+    /// The union of the rights of the letters: `r` reads, `w` writes, `x` executes. None
+    /// where another byte is among them.
     pub fn of_letters(text: &[u8]) -> Option<RightsWord>
         ensures { result ≡ letters_word text.now }
     {

@@ -1,45 +1,27 @@
 -- The path that a word stands for is the normal form of the word: a word again, of bytes that no blank and no sign has.
-use Rattle.std.proofs.Common.{◌≡◌, ℕ, Bool, true, false, not, cond, eqb, nat_eq, get_or, List, [], ◌∷◌, drop, Option, None, Some, option_map, Ok, All, codes, position, ap, sym, ◌∙◌, refl}
+use Rattle.std.proofs.Common.{◌≡◌, ℕ, Bool, true, false, not, cond, eqb, nat_eq, get_or, List, [], ◌∷◌, drop, Ok, All, codes, position, ap, sym, ◌∙◌, refl}
 use Rattle.std.specs.List.{starts_with}
-use Rattle.std.specs.Option.{option_or}
 use Rattle.std.proofs.lemmas.Bool.{eqb-true}
-use Rattle.vr_base.specs.Checks.{unless_fault}
 use Rattle.vr_base.specs.Names.{normal_form, from_root, path_of, byte_fault, length_fault, first_segment_fault, segments, is_name_byte}
-use Rattle.vr_base.specs.declared.names.PathFault.{PathFault}
 use Rattle.vr_base.specs.declared.names.PathFault.TheVariants.{BadByte}
+use Rattle.vr_base.proofs.FaultLemmas.{answered, neither, none_mapped}
 use Rattle.vr_base.proofs.Normal.{without_fault, normal_form-normal_form}
 use Rattle.vr_base.proofs.Places.{none_passes}
 use Rattle.vr_pipe.specs.Pieces.{is_word_byte}
 
-unless_fault_ok : (o : Option PathFault) (v x : List ℕ) → unless_fault o v ≡ Ok x → x ≡ v
-unless_fault_ok None v x h = cc
-unless_fault_ok (Some f) v x h = cc
-
-unless_fault_none : (o : Option PathFault) (v x : List ℕ) → unless_fault o v ≡ Ok x → o ≡ None
-unless_fault_none None v x h = refl
-unless_fault_none (Some f) v x h = cc
-
 pub path_is_normal_form : (word path : List ℕ) → path_of word ≡ Ok path → path ≡ normal_form word
-path_is_normal_form word path h = unless_fault_ok _ (normal_form word) path h
+path_is_normal_form word path h = sym (answered _ (normal_form word) path h).1
 
 -- a path stands for itself
 pub path_again : (word : List ℕ) → path_of word ≡ Ok (normal_form word) → path_of (normal_form word) ≡ Ok (normal_form (normal_form word))
-path_again word h = without_fault segments word (unless_fault_none _ (normal_form word) (normal_form word) h) ∙ ap Ok (sym (normal_form-normal_form word))
-
-none_byte : (o : Option ℕ) → option_map BadByte o ≡ None → o ≡ None
-none_byte None h = refl
-none_byte (Some at) h = cc
-
-none_or : (a b : Option PathFault) → option_or a b ≡ None → (a ≡ None) × (b ≡ None)
-none_or None b h = (refl, h)
-none_or (Some f) b h = cc
+path_again word h = without_fault segments word (answered _ (normal_form word) (normal_form word) h).0 ∙ ap Ok (sym (normal_form-normal_form word))
 
 -- each byte of a path is a name's
 name_bytes : (path : List ℕ) → path_of path ≡ Ok path → All (λ b. not (is_name_byte b) ≡ false) path
 name_bytes path h =
-    let outer = none_or (length_fault (normal_form path)) _ (unless_fault_none _ (normal_form path) path h) in
-    let inner = none_or (byte_fault path) (first_segment_fault (segments (normal_form path))) outer.1 in
-    none_passes (λ b. not (is_name_byte b)) path (none_byte (position (λ b. not (is_name_byte b)) path) inner.0)
+    let outer = neither (length_fault (normal_form path)) _ (answered _ (normal_form path) path h).0 in
+    let inner = neither (byte_fault path) (first_segment_fault (segments (normal_form path))) outer.1 in
+    none_passes (λ b. not (is_name_byte b)) path (none_mapped BadByte (position (λ b. not (is_name_byte b)) path) inner.0)
 
 other_byte : (n b : ℕ) (t : Bool) → eqb b n ≡ t → is_name_byte n ≡ false → not (is_name_byte b) ≡ false → eqb b n ≡ false
 other_byte n b false e isnt h = e

@@ -30,10 +30,10 @@ pub record IsFine (ps : List Piece) : Type 0 where
   pub words : All IsPathWord ps
   pub within : IsWithin ps
 
--- What is wrong with a piece at an offset, after pieces with nothing wrong: no pipeline goes on with it; else it is a
--- word and no path; else it is one more program place or if than there may be. Braces that nest too deep come between
--- these two by their order, and are never the first fault: each level has an if of its own, so the 65th if stands before
--- the 65th level.
+-- What is wrong with a piece at an offset, after pieces with nothing wrong: no pipeline goes on
+-- with it; else it is a word and no path; else it is one more program place or if than there may
+-- be. Braces that nest too deep come between these two by their order, and are never the first
+-- fault: each level has an if of its own, so the 65th if stands before the 65th level.
 abbrev pub IsWrong : PipeFault → List Piece → ℕ → Piece → Type 0
 IsWrong (Expected n) before at p = (n ≡ capped at) × (IsPrefix (before ++ p ∷ []) → ⊥)
 IsWrong (Word n) before at p = (n ≡ capped at) × IsPrefix (before ++ p ∷ []) × (IsPathWord p → ⊥)
@@ -43,7 +43,8 @@ IsWrong (TooDeep n) before at p = ⊥
 IsWrong OutOfMemory before at p = ⊥
 
 -- The first piece with which something is wrong has this fault.
-pub record StopsAt (all : List (ℕ × Piece)) (fault : PipeFault) (at : ℕ) (p : Piece) (before after : List (ℕ × Piece)) : Type 0 where
+pub record StopsAt (all : List (ℕ × Piece)) (fault : PipeFault) (at : ℕ) (p : Piece)
+    (before after : List (ℕ × Piece)) : Type 0 where
   pub whole : all ≡ before ++ (at, p) ∷ after
   pub fine : IsFine (without_offsets before)
   pub wrong : IsWrong fault (without_offsets before) at p
@@ -57,10 +58,12 @@ pub record EndsEarly (length : ℕ) (all : List (ℕ × Piece)) (fault : PipeFau
 -- the first fault of a text of a length with these pieces
 abbrev pub HasFaultIn : ℕ → List (ℕ × Piece) → PipeFault → Type 0
 HasFaultIn length all fault =
-    ((at : ℕ) × (p : Piece) × (before : List (ℕ × Piece)) × (after : List (ℕ × Piece)) × StopsAt all fault at p before after)
+    ((at : ℕ) × (p : Piece) × (before : List (ℕ × Piece)) × (after : List (ℕ × Piece))
+    × StopsAt all fault at p before after)
     ⊎ EndsEarly length all fault
 
--- the first fault of a text: the one with the least offset, and at one offset the first by the order of its kind
+-- the first fault of a text: the one with the least offset, and at one offset the
+-- first by the order of its kind
 abbrev pub HasFault : List ℕ → PipeFault → Type 0
 HasFault text fault = HasFaultIn (length text) (pieces_at text) fault
 

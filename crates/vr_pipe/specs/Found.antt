@@ -14,6 +14,7 @@ pub record Found : Type 0 where
   pub programs : List (List ℕ)
   pub tests : List (List ℕ)
 
+-- what is found before the first piece
 abbrev pub nothing_found : Found
 nothing_found = record { programs = []; tests = [] }
 
@@ -29,7 +30,8 @@ word_at at word = result_map_err (word_fault at) (path_of word)
 abbrev pub with_program : ℕ → Found → List ℕ → Result Found PipeFault
 with_program at found path =
     if nat_lt (length found.programs) most_programs
-    then Ok (record { programs = found.programs ++ path ∷ []; tests = found.tests }) else Err (TooMany (capped at))
+    then Ok (record { programs = found.programs ++ path ∷ []; tests = found.tests })
+    else Err (TooMany (capped at))
 
 -- one more path of an if
 abbrev pub with_test : Found → List ℕ → Found
@@ -37,7 +39,8 @@ with_test found path = record { programs = found.programs; tests = found.tests +
 
 -- what there is before one more if, at an offset
 abbrev pub before_if : ℕ → Found → Result Found PipeFault
-before_if at found = if nat_lt (length found.tests) most_ifs then Ok found else Err (TooMany (capped at))
+before_if at found =
+    if nat_lt (length found.tests) most_ifs then Ok found else Err (TooMany (capped at))
 
 -- what is found with one more piece, after an if or not, unless it is no path or one too many
 abbrev pub found_with : ℕ → Bool → Found → Piece → Result Found PipeFault

@@ -1,5 +1,5 @@
--- How a reader goes through the words and signs of a text with a stack of what stands open, the innermost first, up to
--- the first fault.
+-- How a reader goes through the words and signs of a text with a stack of what stands open, the
+-- innermost first, up to the first fault.
 use Rattle.std.specs.Prelude.{◌≡◌, ℕ, Bool, true, false, List, [], ◌∷◌, length, Option, None, Some, option_and_then, MatchOption, Result, Ok}
 use Rattle.vr_base.specs.Checks.{◌>>=◌, or_fault, result_map}
 use Rattle.vr_base.specs.Names.{normal_form}
@@ -63,7 +63,9 @@ open_brace f fs _ = None
 -- a place that is fed into what comes next was taken off the innermost frames, or there was none
 abbrev pub PopsFed : List Frame → List Frame → Option Tree → Type 0
 PopsFed old new fed =
-    MatchOption fed ((s : Tree) → join s old ≡ (s, new)) (λ p. (s : Tree) → join s old ≡ join (Feed p s) new)
+    MatchOption fed
+    ((s : Tree) → join s old ≡ (s, new))
+    (λ p. (s : Tree) → join s old ≡ join (Feed p s) new)
 
 -- what is open after one more piece, unless no pipeline goes on with it
 abbrev pub next : Focus → List Frame → Piece → Option (Focus × List Frame)
@@ -101,6 +103,7 @@ pub record State : Type 0 where
   pub frames : List Frame
   pub found : Found
 
+-- the state of the parser that the code keeps
 abbrev pub state_of : Parser → State
 state_of p = record { focus = p.focus; frames = p.frames; found = p.paths }
 
@@ -109,7 +112,8 @@ abbrev pub GivesState : Result Parser PipeFault → Result State PipeFault → T
 GivesState result answer = Gives (result_map state_of result) answer
 
 -- the state after a piece at an offset, where this is open after it
-abbrev pub state_with : ℕ → Bool → Found → Piece → Option (Focus × List Frame) → Result State PipeFault
+abbrev pub state_with : ℕ → Bool → Found → Piece → Option (Focus × List Frame)
+    → Result State PipeFault
 state_with at tested found p after = do
   state ← or_fault (Expected (capped at)) after
   found ← found_with at tested found p
@@ -117,7 +121,8 @@ state_with at tested found p after = do
 
 -- the state after a piece at an offset
 abbrev pub advance : ℕ → State → Piece → Result State PipeFault
-advance at state p = state_with at (is_test state.focus) state.found p (next state.focus state.frames p)
+advance at state p =
+    state_with at (is_test state.focus) state.found p (next state.focus state.frames p)
 
 -- the tree and what was found, at the end of a text of a length
 abbrev pub finish : ℕ → Found → Option Tree → Result (Tree × Found) PipeFault
@@ -132,6 +137,7 @@ parse_from end state (p ∷ ps) = do
   after ← advance p.0 state p.1
   parse_from end after ps
 
+-- the state before the first piece, where a place must come
 abbrev pub at_start : State
 at_start = record { focus = Place; frames = []; found = nothing_found }
 
@@ -139,6 +145,7 @@ at_start = record { focus = Place; frames = []; found = nothing_found }
 abbrev pub parse : List ℕ → Result (Tree × Found) PipeFault
 parse text = parse_from (length text) at_start (pieces_at text)
 
--- The tree of the pipeline that a text spells, or the text's first fault: proofs/Laws has it by the grammar.
+-- The tree of the pipeline that a text spells, or the text's first fault:
+-- proofs/Laws has it by the grammar.
 unfoldable pub pipe_of : List ℕ → Result Tree PipeFault
 pipe_of text = result_map (λ parsed. parsed.0) (parse text)

@@ -21,7 +21,8 @@ is_blank b = (b == space) || (b == tab) || (b == line_feed) || (b == carriage_re
 
 -- one of ; | { }
 abbrev pub is_sign : ℕ → Bool
-is_sign b = (b == signs.semicolon) || (b == vertical_line) || (b == left_brace) || (b == right_brace)
+is_sign b =
+    (b == signs.semicolon) || (b == vertical_line) || (b == left_brace) || (b == right_brace)
 
 -- a byte of a word: no blank and no sign
 abbrev pub is_word_byte : ℕ → Bool
@@ -29,15 +30,18 @@ is_word_byte b = not (is_blank b || is_sign b)
 
 -- the keyword, or the name, that a word is
 abbrev pub word_piece : List ℕ → Piece
-word_piece word = if bytes_eq word (codes "if") then if_word else (if bytes_eq word (codes "else") then else_word else name word)
+word_piece word =
+    if bytes_eq word (codes "if") then if_word
+    else (if bytes_eq word (codes "else") then else_word else name word)
 
 -- what a sign is, the closing brace where it is none of the others
 abbrev pub sign_piece : ℕ → Piece
 sign_piece b =
-    if b == signs.semicolon then semicolon else (if b == vertical_line then bar else (if b == left_brace then opening else closing))
+    if b == signs.semicolon then semicolon
+    else (if b == vertical_line then bar else (if b == left_brace then opening else closing))
 
--- The words and signs of bytes whose first stands at an offset. A word begins where no byte of a word stands before it,
--- and is the longest run from there.
+-- The words and signs of bytes whose first stands at an offset. A word begins where no byte of a
+-- word stands before it, and is the longest run from there.
 abbrev pub pieces_from : ℕ → Bool → List ℕ → List (ℕ × Piece)
 pieces_from at within [] = []
 pieces_from at within (b ∷ bs) =
@@ -50,6 +54,7 @@ pieces_from at within (b ∷ bs) =
 abbrev pub pieces_at : List ℕ → List (ℕ × Piece)
 pieces_at text = pieces_from 0 false text
 
+-- the words and signs alone
 abbrev pub without_offsets : List (ℕ × Piece) → List Piece
 without_offsets ps = map (λ p. p.1) ps
 

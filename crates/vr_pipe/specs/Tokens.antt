@@ -15,7 +15,9 @@ piece_of Semicolon = semicolon
 piece_of Open = opening
 piece_of Close = closing
 
--- Bytes at an offset begin with a word or sign, and this is where it stands and what comes after it.
+-- Bytes at an offset begin with a word or sign, and this is where it
+-- stands and what comes after it.
 abbrev pub BeginsWith : ℕ → List ℕ → Placed → Type 0
 BeginsWith at bytes placed =
-    pieces_from at false bytes ≡ (placed.at, piece_of placed.token) ∷ pieces_from placed.end false placed.rest.now
+    pieces_from at false bytes
+    ≡ (placed.at, piece_of placed.token) ∷ pieces_from placed.end false placed.rest.now

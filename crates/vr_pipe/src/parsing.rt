@@ -367,7 +367,8 @@ fn close_brace(
     paths: Paths,
     at: usize,
 ) -> Result<Parser, PipeFault>
-    ensures { GivesState result (state_with at false paths closing (inside_focus (close last frames))) }
+    ensures { GivesState result
+        (state_with at false paths closing (inside_focus (close last frames))) }
 {
     match close(alloc, last, &mut frames)? {
         Closed::Inside(focus) => Ok(Parser {
@@ -423,7 +424,8 @@ fn after_semicolon(
     token: Token<'_>,
 ) -> Result<Parser, PipeFault>
     ensures { let piece = piece_of token.entry in
-        GivesState result (state_with at false paths piece (next (Focus.Ended first) frames piece)) }
+        GivesState result
+        (state_with at false paths piece (next (Focus.Ended first) frames piece)) }
 {
     match token {
         Token::Close => close_brace(alloc, first, frames, paths, at),
@@ -445,7 +447,8 @@ fn after_branch(
     token: Token<'_>,
 ) -> Result<Parser, PipeFault>
     ensures { let piece = piece_of token.entry in
-        GivesState result (state_with at false paths piece (next (Focus.Branch path taken) frames piece)) }
+        GivesState result
+        (state_with at false paths piece (next (Focus.Branch path taken) frames piece)) }
 {
     match token {
         Token::Else => Ok(Parser {

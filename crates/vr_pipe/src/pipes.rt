@@ -15,8 +15,8 @@ use std::alloc::Global;
 use std::marker::Model;
 use vr_base::Path;
 
-/// A pipeline that some text spells: each path in it is one, and it has at most 64 program places and 64 `if`s, with
-/// braces that nest at most 64 deep. Contracts see it as its tree.
+/// A pipeline that some text spells: each path in it is one, and it has at most 64 program places
+/// and 64 `if`s, with braces that nest at most 64 deep. Contracts see it as its tree.
 #[derive(Debug, Drop)]
 pub struct Pipe {
     tree: Tree,
@@ -80,12 +80,13 @@ fn parse(alloc: Global, text: &[u8]) -> Result<(Tree, Paths), PipeFault>
 
 /// The pipeline that a text spells.
 ///
-/// A pipeline is a sequence of feeds with `;` between them, and a `;` after the last means nothing. A feed is places with
-/// `|` between them. A place is a path, or `if path { .. }` with a pipeline in the braces, and perhaps `else { .. }` after
-/// it. Spaces, tabs, CR and LF may stand round words and signs. A word is a longest run of bytes other than these and
-/// `;`, `|`, `{`, `}`. The words `if` and `else` are always keywords, and any other word must be the name of a path. There
-/// are at most 64 program places and 64 `if`s, and braces nest at most 64 deep; a 65th level is never what is wrong first,
-/// since each level has an `if` of its own.
+/// A pipeline is a sequence of feeds with `;` between them, and a `;` after the last means nothing.
+/// A feed is places with `|` between them. A place is a path, or `if path { .. }` with a pipeline
+/// in the braces, and perhaps `else { .. }` after it. Spaces, tabs, CR and LF may stand round words
+/// and signs. A word is a longest run of bytes other than these and `;`, `|`, `{`, `}`. The words
+/// `if` and `else` are always keywords, and any other word must be the name of a path. There are at
+/// most 64 program places and 64 `if`s, and braces nest at most 64 deep; a 65th level is never what
+/// is wrong first, since each level has an `if` of its own.
 #[tactic(auto, unfolding(crate::specs::Parser::pipe_of))]
 pub fn parse_pipe(alloc: Global, text: &[u8]) -> Result<Pipe, PipeFault>
     // What is answered is what the text spells, and what it spells is answered.

@@ -57,8 +57,8 @@ fn print_tree(tree: &Tree, out: &mut Bytes) -> Result<(), NoMemory>
     }
 }
 
-/// A pipeline's text: its words and signs with one space between them, its paths in normal form, and no `;` after
-/// the last feed. Reading it gives the same pipeline.
+/// A pipeline's text: its words and signs with one space between them, its paths in normal form,
+/// and no `;` after the last feed. Reading it gives the same pipeline.
 pub fn print_pipe(alloc: Global, pipe: &Pipe) -> Result<Bytes, NoMemory>
     ensures text { IfOk result (λ text. text ≡ text_of (pipe_tree pipe.now)) }
     ensures spells { IfOk result (λ text. Spells text (pipe_tree pipe.now)) }

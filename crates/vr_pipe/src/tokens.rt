@@ -20,7 +20,8 @@ pub enum Token<'a> {
     Close,
 }
 
-/// A word or a sign, the offset of its first byte, that of the byte after it, and the bytes from there on.
+/// A word or a sign, the offset of its first byte, that of the byte after it,
+/// and the bytes from there on.
 #[derive(Clone, Copy, Debug)]
 pub struct Placed<'a> {
     pub token: Token<'a>,

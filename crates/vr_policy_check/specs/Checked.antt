@@ -21,8 +21,11 @@ pub record IsChecked (checked : CheckedData) : Type 0 where
   pub pins : IsDistinct (pin_paths checked.policy)
   pub grants : All (λ grants. IsDistinct (grant_names grants)) (grant_lists checked.policy)
   pub no_directory : All (λ program. names_directory program.name ≡ false) checked.policy.programs
-  pub trees : AllZip (λ pipeline tree. Spells pipeline.text (pipe_tree tree)) checked.policy.pipelines checked.pipes
-  pub listed : All (λ tree. All (Contains (program_names checked.policy)) (programs_of (pipe_tree tree))) checked.pipes
+  pub trees : AllZip (λ pipeline tree. Spells pipeline.text (pipe_tree tree))
+      checked.policy.pipelines checked.pipes
+  pub listed : All
+      (λ tree. All (Contains (program_names checked.policy)) (programs_of (pipe_tree tree)))
+      checked.pipes
 
 -- the place of the identity with an id
 abbrev pub identity_place : PolicyData → ℕ → Option ℕ
@@ -33,12 +36,14 @@ abbrev pub pipeline_place : PolicyData → ℕ → Option ℕ
 pipeline_place policy id = position (λ listed. listed == id) (pipeline_ids policy)
 
 -- What passing the rules gives beside the trees: the limits, and the places of the ids.
-pub record IsPassed (policy : PolicyData) (identity_places pipeline_places : BTreeMap ℕ ℕ) : Type 0 where
+pub record IsPassed (policy : PolicyData) (identity_places pipeline_places : BTreeMap ℕ ℕ)
+    : Type 0 where
   pub limits : IsWithinLimits policy
   pub identities : Indexes nat_cmp (identity_ids policy) identity_places
   pub pipelines : Indexes nat_cmp (pipeline_ids policy) pipeline_places
 
 -- what a value of the type keeps
-pub record KeepsChecked (policy : CheckedData) (identity_places pipeline_places : BTreeMap ℕ ℕ) : Type 0 where
+pub record KeepsChecked (policy : CheckedData) (identity_places pipeline_places : BTreeMap ℕ ℕ)
+    : Type 0 where
   pub checked : IsChecked policy
   pub places : IsPassed policy.policy identity_places pipeline_places

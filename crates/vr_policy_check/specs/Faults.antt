@@ -1,4 +1,5 @@
--- The faults of the rules on a policy, and what an error of a call that checks one tells of the answer.
+-- The faults of the rules on a policy, and what an error of a call that
+-- checks one tells of the answer.
 use Rattle.std.specs.Prelude.{ℕ, Result}
 use Rattle.vr_base.specs.Checks.{Told, nothing, exactly, GivesBy}
 use Rattle.vr_policy_check.specs.declared.faults.CheckKind.{CheckKind}
@@ -14,6 +15,7 @@ abbrev pub told_by_kind : {F : Type 0} → CheckKind → F → Told F
 told_by_kind OutOfMemory fault = nothing
 told_by_kind kind fault = exactly fault
 
+-- what a fault of the code tells of the policy
 abbrev pub told : CheckFault → Told CheckFault
 told fault = told_by_kind fault.kind fault
 

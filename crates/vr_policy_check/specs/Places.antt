@@ -20,10 +20,12 @@ Indexes {K} cmp keys places = (key : K) → get cmp places key ≡ position (sam
 
 -- What is had of a list: its places, where no key comes twice; else the first key that does.
 abbrev pub IsIndexOf : {K : Type 0} → (K → K → Ordering) → List K → Index K → Type 0
-IsIndexOf cmp keys (Places places) = (first_repeat (same_by cmp) keys ≡ None) × Indexes cmp keys places
+IsIndexOf cmp keys (Places places) =
+    (first_repeat (same_by cmp) keys ≡ None) × Indexes cmp keys places
 IsIndexOf cmp keys (Repeat at) = first_repeat (same_by cmp) keys ≡ Some at
 
 -- A map has these names, and no other.
 abbrev pub HasNames : List (List ℕ) → BTreeMap (Bor (List ℕ)) ℕ → Type 0
 HasNames names places = (name : Bor (List ℕ)) →
-    is_some (get_by (λ key. slice_cmp nat_cmp name.now key.now) places) ≡ list_any (bytes_eq name.now) names
+    is_some (get_by (λ key. slice_cmp nat_cmp name.now key.now) places)
+    ≡ list_any (bytes_eq name.now) names

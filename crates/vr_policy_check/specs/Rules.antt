@@ -1,5 +1,5 @@
--- The rules on a whole policy. Each is a definition of the first index at which it fails, none where it holds. The first
--- of them that fails is the answer, at its first index.
+-- The rules on a whole policy. Each is a definition of the first index at which it fails, none
+-- where it holds. The first of them that fails is the answer, at its first index.
 use Rattle.std.specs.Prelude.{ℕ, ◌+◌, Bool, not, nat_eq, bytes_eq, is_some, List, [], ◌∷◌, ◌++◌, length, map, position, Option, Some, None, option_map, Result, Ok, ◌==◌, if◌then◌else◌}
 use Rattle.std.specs.List.{list_any, list_all}
 use Rattle.vr_base.specs.Checks.{◌>>=◌, ◌>>◌, unless_fault, result_map_err}
@@ -17,23 +17,29 @@ use Rattle.vr_policy_check.specs.Repeats.{first_repeat}
 
 -- ---- what the rules look at
 
+-- the identities' ids, in the policy's order
 abbrev pub identity_ids : PolicyData → List ℕ
 identity_ids policy = map (λ identity. identity.id) policy.identities
 
+-- the programs' names, in normal form
 abbrev pub program_names : PolicyData → List (List ℕ)
 program_names policy = map (λ program. program.name) policy.programs
 
+-- the pipelines' ids
 abbrev pub pipeline_ids : PolicyData → List ℕ
 pipeline_ids policy = map (λ pipeline. pipeline.id) policy.pipelines
 
+-- the paths whose hashes are pinned
 abbrev pub pin_paths : PolicyData → List (List ℕ)
 pin_paths policy = map (λ pin. pin.path) policy.pins
 
 -- the lists of grants: the identities', then the programs'
 abbrev pub grant_lists : PolicyData → List (List (List ℕ × ℕ))
 grant_lists policy =
-    map (λ identity. identity.grants) policy.identities ++ map (λ program. program.grants) policy.programs
+    map (λ identity. identity.grants) policy.identities
+    ++ map (λ program. program.grants) policy.programs
 
+-- the names in a list of grants
 abbrev pub grant_names : List (List ℕ × ℕ) → List (List ℕ)
 grant_names grants = map (λ grant. grant.0) grants
 
@@ -61,7 +67,8 @@ same_pin policy = first_repeat bytes_eq (pin_paths policy)
 
 -- no list of grants has one name twice; the index is that of the list
 abbrev pub grant_twice : PolicyData → Option ℕ
-grant_twice policy = position (λ grants. is_some (first_repeat bytes_eq (grant_names grants))) (grant_lists policy)
+grant_twice policy =
+    position (λ grants. is_some (first_repeat bytes_eq (grant_names grants))) (grant_lists policy)
 
 -- no program is a directory
 abbrev pub directory_as_program : PolicyData → Option ℕ
@@ -81,7 +88,8 @@ trees_from at (pipeline ∷ pipelines) = do
 
 -- each program of the tree is one of these
 abbrev pub has_programs : List (List ℕ) → Tree → Bool
-has_programs names tree = list_all (λ path. list_any (bytes_eq path) names) (programs_of (pipe_tree tree))
+has_programs names tree =
+    list_all (λ path. list_any (bytes_eq path) names) (programs_of (pipe_tree tree))
 
 -- each program of each tree is one of these
 abbrev pub unlisted_among : List (List ℕ) → List Tree → Option ℕ

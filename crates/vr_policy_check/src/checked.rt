@@ -10,8 +10,8 @@ use std::marker::Model;
 use vr_pipe::Pipe;
 use vr_policy_read::Policy;
 
-/// A policy that meets every rule, with its pipelines read. A place is an index in one of the policy's lists. Contracts
-/// see the policy and its pipelines' trees.
+/// A policy that meets every rule, with its pipelines read. A place is an index in one of the
+/// policy's lists. Contracts see the policy and its pipelines' trees.
 #[derive(Debug, Drop)]
 pub struct CheckedPolicy {
     policy: Policy,
@@ -71,8 +71,8 @@ impl CheckedPolicy {
     }
 }
 
-/// Checks the rules on a whole policy, in the order of the kinds of their faults. The answer is the first that fails, at
-/// the first index at which it does; then the policy is dropped.
+/// Checks the rules on a whole policy, in the order of the kinds of their faults. The answer is the
+/// first that fails, at the first index at which it does; then the policy is dropped.
 ///
 /// It takes time in proportion to the policy's size and the logarithm of the lengths of its lists.
 pub fn check(alloc: Global, policy: Policy) -> Result<CheckedPolicy, CheckFault>

@@ -19,12 +19,13 @@ pub enum CheckKind {
     SamePipeline,
     /// A pinned path is that of a pin before it.
     SamePin,
-    /// A list of grants has one name twice. The index is the identity's, or the number of identities plus the
-    /// program's.
+    /// A list of grants has one name twice. The index is the identity's, or the number of
+    /// identities plus the program's.
     GrantTwice,
     /// A program's name is a directory's.
     DirectoryAsProgram,
-    /// A pipeline's text spells no pipeline. The fault is the first in the text, and never that memory ran out.
+    /// A pipeline's text spells no pipeline. The fault is the first in the text,
+    /// and never that memory ran out.
     PipeRefused(PipeFault),
     /// A pipeline runs a program that the policy doesn't list, in either branch of an `if` too.
     UnlistedProgram,

@@ -261,7 +261,8 @@ fn check_listed(pipes: &[Pipe], listed: &Names<'_>) -> Result<(), CheckFault>
 
 /// Checks the rules in their order.
 pub fn check_rules(alloc: Global, policy: &Policy) -> Result<Passed, CheckFault>
-    ensures answer { Gives (result_map (λ passed. checked_data policy.now passed.pipes.items) result)
+    ensures answer { Gives
+        (result_map (λ passed. checked_data policy.now passed.pipes.items) result)
         (check_of policy.now) }
     ensures passed { IfOk result (λ passed.
         IsPassed policy.now passed.identity_places passed.pipeline_places) }

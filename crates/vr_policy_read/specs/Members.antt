@@ -48,6 +48,7 @@ optional_value absent read (Some d) = read d
 
 -- ---- kinds
 
+-- the value of a member, where it is an object, a list or a text
 abbrev pub object_in : Member → Data → Result Members ReadKind
 object_in member d = or_fault (WrongKind member) (as_object d)
 
@@ -63,20 +64,24 @@ required_text member object = required_value member object >>= text_in member
 
 -- the whole number, where it is at most so much
 abbrev pub whole_at_most : ℕ → Num → Option ℕ
-whole_at_most most n = option_and_then (λ whole. if nat_le whole most then Some whole else None) (as_u64 n)
+whole_at_most most n =
+    option_and_then (λ whole. if nat_le whole most then Some whole else None) (as_u64 n)
 
 -- a whole number from 0 to the most
 abbrev pub number_in : ℕ → Member → Data → Result ℕ ReadKind
-number_in most member d = or_fault (WrongKind member) (option_and_then (whole_at_most most) (as_number d))
+number_in most member d =
+    or_fault (WrongKind member) (option_and_then (whole_at_most most) (as_number d))
 
 -- ---- lists
 
 -- an entry of a list: an object that is read
-abbrev pub entry_in : {A : Type 0} → Member → (Members → Result A ReadKind) → Data → Result A ReadKind
+abbrev pub entry_in : {A : Type 0} → Member → (Members → Result A ReadKind) → Data
+    → Result A ReadKind
 entry_in list read d = object_in list d >>= read
 
 -- the entries of a list from the k-th on; the first fault has the index of its entry
-abbrev pub entries_from : {A : Type 0} → ℕ → Member → (Members → Result A ReadKind) → Items → Result (List A) ReadFault
+abbrev pub entries_from : {A : Type 0} → ℕ → Member → (Members → Result A ReadKind) → Items
+    → Result (List A) ReadFault
 entries_from k list read no_items = Ok []
 entries_from k list read (item d ds) = do
   x ← answer_at k (entry_in list read d)
@@ -84,10 +89,13 @@ entries_from k list read (item d ds) = do
   Ok (x ∷ xs)
 
 -- the entries of a list, unless there are too many
-abbrev pub entries_of : {A : Type 0} → Member → (Members → Result A ReadKind) → Items → Result (List A) ReadFault
+abbrev pub entries_of : {A : Type 0} → Member → (Members → Result A ReadKind) → Items
+    → Result (List A) ReadFault
 entries_of list read items =
-    if nat_lt most_entries (items_len items) then Err (fault_at (TooMany list) 0) else entries_from 0 list read items
+    if nat_lt most_entries (items_len items) then Err (fault_at (TooMany list) 0)
+    else entries_from 0 list read items
 
 -- the entries of a list of objects
-abbrev pub entries_in : {A : Type 0} → Member → (Members → Result A ReadKind) → Data → Result (List A) ReadFault
+abbrev pub entries_in : {A : Type 0} → Member → (Members → Result A ReadKind) → Data
+    → Result (List A) ReadFault
 entries_in list read d = answer_at 0 (list_in list d) >>= entries_of list read

@@ -109,10 +109,14 @@ pages_of mib = min most_pages (pages_per_mib * mib)
 
 -- max_memory_mib in pages; all that a run may have where it is absent
 abbrev pub pages_in : Members → Result ℕ ReadKind
-pages_in top = optional_value most_pages (λ d. number_in (2 ^ 64 - 1) MaxMemory d >>= λ mib. Ok (pages_of mib)) (member_value MaxMemory top)
+pages_in top =
+    optional_value most_pages
+    (λ d. number_in (2 ^ 64 - 1) MaxMemory d >>= λ mib. Ok (pages_of mib))
+    (member_value MaxMemory top)
 
 -- the entries of a list that may be absent, which means that it is empty
-abbrev pub optional_entries : {A : Type 0} → Member → (Members → Result A ReadKind) → Members → Result (List A) ReadFault
+abbrev pub optional_entries : {A : Type 0} → Member → (Members → Result A ReadKind) → Members
+    → Result (List A) ReadFault
 optional_entries list read top = optional_value [] (entries_in list read) (member_value list top)
 
 -- the policy that a tree says, its members tested in this order
@@ -129,7 +133,9 @@ policy_of_tree tree = do
 
 -- the tree that a file of at most so many bytes spells in JSON, as UTF-8
 abbrev pub tree_within : ℕ → List ℕ → Result Data ReadKind
-tree_within most bytes = if nat_lt most (length bytes) then Err TooLong else or_fault NotJson (if is_utf8 bytes then read bytes else None)
+tree_within most bytes =
+    if nat_lt most (length bytes) then Err TooLong
+    else or_fault NotJson (if is_utf8 bytes then read bytes else None)
 
 -- the policy that a file of at most so many bytes says, or its first fault
 abbrev pub policy_within : ℕ → List ℕ → Result PolicyData ReadFault

@@ -17,7 +17,8 @@ pub record PolicyData : Type 0 where
   pub quotas : List Quota
 
 -- the policy with these parts
-abbrev pub policy_data : List Identity → List Program → List Pipeline → List Pin → ℕ → List Quota → PolicyData
+abbrev pub policy_data : List Identity → List Program → List Pipeline → List Pin → ℕ → List Quota
+    → PolicyData
 policy_data identities programs pipelines pins pages quotas = record {
   identities = identities;
   programs = programs;
@@ -31,7 +32,8 @@ policy_data identities programs pipelines pins pages quotas = record {
 abbrev pub IsShort : {A : Type 0} → List A → Type 0
 IsShort entries = length entries ≤ most_entries
 
--- Neither a run's pages nor the entries of a list, those of grants among them, are more than there may be.
+-- Neither a run's pages nor the entries of a list, those of grants among
+-- them, are more than there may be.
 pub record IsWithinLimits (policy : PolicyData) : Type 0 where
   pub pages : policy.pages ≤ most_pages
   pub identities : IsShort policy.identities

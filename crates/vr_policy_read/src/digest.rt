@@ -7,7 +7,8 @@ ghost use Rattle.vr_policy_read.specs.Policies.{hash_of};
 use crate::faults::ReadKind;
 use sha2::{Digest, Sha256};
 
-/// The SHA-256 (FIPS 180-4) of a policy file's bytes in 64 lower-case hex digits. It takes no memory.
+/// The SHA-256 (FIPS 180-4) of a policy file's bytes in 64 lower-case
+/// hex digits. It takes no memory.
 pub fn policy_hash(bytes: &[u8]) -> [u8; 64]
     ensures { result ≡ encode_lower (sha256 bytes.now) }
 {

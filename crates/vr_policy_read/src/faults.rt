@@ -61,16 +61,18 @@ impl Member {
 pub enum ReadKind {
     /// The file has more than 4,194,304 bytes.
     TooLong,
-    /// The file is no JSON text (RFC 8259) in UTF-8, nests deeper than 127, or has a number that no finite float is near.
+    /// The file is no JSON text (RFC 8259) in UTF-8, nests deeper than 127, or has a number
+    /// that no finite float is near.
     NotJson,
     /// A member that has to be there is absent.
     Missing(Member),
-    /// A member is of another kind, or a number other than a rights word is not whole or not in its range. An entry that is
-    /// no object is of the wrong kind for its list's member.
+    /// A member is of another kind, or a number other than a rights word is not whole or not in its
+    /// range. An entry that is no object is of the wrong kind for its list's member.
     WrongKind(Member),
     /// A text is no name of a file, or of a grant.
     BadName,
-    /// A number is no rights word from 0 to 2^32 - 1, or a text has a byte other than the letters `r`, `w` and `x`.
+    /// A number is no rights word from 0 to 2^32 - 1, or a text has a byte other than
+    /// the letters `r`, `w` and `x`.
     BadRights,
     /// A text is not 64 hex digits.
     BadHash,
@@ -102,7 +104,8 @@ impl ReadKind {
 #[derive(Clone, Copy, Debug, PartialEq, Eq)]
 pub struct ReadFault {
     pub kind: ReadKind,
-    /// The index in the outermost list, counted from 0, and 0 where the fault is in no entry of a list.
+    /// The index in the outermost list, counted from 0, and 0 where the
+    /// fault is in no entry of a list.
     pub at: u32,
 }
 

@@ -5,8 +5,9 @@ use crate::entries::{Identity, Pin, Pipeline, Program, Quota};
 use std::marker::Model;
 use vr_base::List;
 
-/// A policy as its file says it, within the limits on a policy's size. Whether its parts fit together is another
-/// question: names and ids may come twice, and the texts of pipelines are not read.
+/// A policy as its file says it, within the limits on a policy's size. Whether its
+/// parts fit together is another question: names and ids may come twice, and the
+/// texts of pipelines are not read.
 #[derive(Debug, Drop)]
 pub struct Policy {
     pub identities: List<Identity>,

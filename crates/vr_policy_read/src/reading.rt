@@ -287,9 +287,10 @@ fn policy(alloc: Global, tree: &Value) -> Result<Policy, ReadFault>
     })
 }
 
-/// The policy that a file's bytes say, or the first fault in them. The tests go through the file's length, its JSON and
-/// its top, and then through `identities`, `programs`, `pipelines`, `file_hashes`, `max_memory_mib` and `quotas`; in a
-/// list first its presence, kind and length, and then its entries in order.
+/// The policy that a file's bytes say, or the first fault in them. The tests go through the file's
+/// length, its JSON and its top, and then through `identities`, `programs`, `pipelines`,
+/// `file_hashes`, `max_memory_mib` and `quotas`; in a list first its presence, kind and length,
+/// and then its entries in order.
 pub fn read_policy(alloc: Global, bytes: &[u8]) -> Result<Policy, ReadFault>
     ensures { Gives result (policy_of bytes.now) }
 {

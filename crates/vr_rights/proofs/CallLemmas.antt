@@ -1,7 +1,7 @@
 -- What the regions of a policy tell, in the policy's own words: for callers that have a policy and its regions.
 use Rattle.std.proofs.Common.{◌≡◌, ℕ, ◌<◌, List, [], length, map, None, Some, slice_get, ◌∙◌, ap, get_or}
 use Rattle.std.proofs.lemmas.List.{get_or-map, length-map}
-use Rattle.std.proofs.lemmas.Option.{get_or_from_slice_get, slice_get_within}
+use Rattle.std.proofs.lemmas.Option.{slice_get_within}
 use Rattle.vr_policy_read.specs.declared.entries.Identity.{Identity}
 use Rattle.vr_policy_read.specs.declared.entries.Program.{Program}
 use Rattle.vr_pipe.specs.declared.trees.Tree.{Tree}
@@ -12,10 +12,16 @@ use Rattle.vr_rights.specs.Quotas.{quota_of}
 use Rattle.vr_rights.specs.Tables.{RegionsData, IsRegionsOf, HasEntry, entry_of}
 use Rattle.vr_rights.specs.Words.{word_in, missing_program}
 use Rattle.vr_rights.specs.declared.regions.Holder.TheVariants as holders
+use Rattle.vr_rights.proofs.ZipLemmas.{mapped_at}
 
--- an element of a map
-mapped_at : {X Y : Type 0} (f : X → Y) (xs : List X) (i : ℕ) (x : X) (absent : Y) → slice_get xs i ≡ Some x → get_or (map f xs) i absent ≡ f x
-mapped_at f xs i x absent e = get_or-map f xs i x absent (slice_get_within xs i x e) ∙ ap f (get_or_from_slice_get xs i x x e)
+-- a word of the row that a table has for each holder
+row_word : {X : Type 0} (grants_of : X → List (List ℕ × ℕ)) (names : List (List ℕ)) (holders : List X) (table : List (List ℕ)) (place region : ℕ) (holder : X)
+    → table ≡ map (λ x. map (λ name. word_in name (grants_of x)) names) holders → slice_get holders place ≡ Some holder → region < length names
+    → get_or (get_or table place []) region 0 ≡ word_in (get_or names region []) (grants_of holder)
+row_word grants_of names holders table place region holder same e l =
+    ap (λ t. get_or (get_or t place []) region 0) same
+    ∙ ap (λ row. get_or row region 0) (mapped_at (λ x. map (λ name. word_in name (grants_of x)) names) holders place holder [] e)
+    ∙ get_or-map (λ name. word_in name (grants_of holder)) names region [] 0 l
 
 module _ (checked : CheckedData) (regions : RegionsData) (h : IsRegionsOf checked regions) where
   -- places of the policy are places of the tables
@@ -39,16 +45,12 @@ module _ (checked : CheckedData) (regions : RegionsData) (h : IsRegionsOf checke
   pub word_of_identity : (place region : ℕ) (identity : Identity) → slice_get checked.policy.identities place ≡ Some identity → region < length regions.names
       → word_of regions (holders.Identity place) region ≡ word_in (get_or regions.names region []) identity.grants
   word_of_identity place region identity e l =
-      ap (λ (r : RegionsData). get_or (get_or r.identities place []) region 0) h.tables
-      ∙ ap (λ row. get_or row region 0) (mapped_at (λ (i : Identity). map (λ name. word_in name i.grants) regions.names) checked.policy.identities place identity [] e)
-      ∙ get_or-map (λ name. word_in name identity.grants) regions.names region [] 0 l
+      row_word (λ (i : Identity). i.grants) regions.names checked.policy.identities regions.identities place region identity (ap (λ (r : RegionsData). r.identities) h.tables) e l
 
   pub word_of_program : (place region : ℕ) (program : Program) → slice_get checked.policy.programs place ≡ Some program → region < length regions.names
       → word_of regions (holders.Program place) region ≡ word_in (get_or regions.names region []) program.grants
   word_of_program place region program e l =
-      ap (λ (r : RegionsData). get_or (get_or r.programs place []) region 0) h.tables
-      ∙ ap (λ row. get_or row region 0) (mapped_at (λ (p : Program). map (λ name. word_in name p.grants) regions.names) checked.policy.programs place program [] e)
-      ∙ get_or-map (λ name. word_in name program.grants) regions.names region [] 0 l
+      row_word (λ (p : Program). p.grants) regions.names checked.policy.programs regions.programs place region program (ap (λ (r : RegionsData). r.programs) h.tables) e l
 
   -- the first program of a pipeline that an identity may not execute
   pub missing_of : (identity pipeline : ℕ) (listed : Identity) (pipe : Tree) → slice_get checked.policy.identities identity ≡ Some listed → slice_get checked.pipes pipeline ≡ Some pipe

@@ -5,8 +5,16 @@ use Rattle.std.proofs.lemmas.List.{take_more, flat_map_more}
 use Rattle.std.proofs.lemmas.Option.{get_or_from_slice_get}
 use Rattle.vr_pipe.specs.declared.trees.Tree.{Tree}
 use Rattle.vr_pipe.specs.Trees.{pipe_tree, programs_of, tests_of}
+use Rattle.vr_policy_read.specs.declared.entries.Pipeline.{Pipeline}
+use Rattle.vr_policy_read.specs.PolicyData.{PolicyData}
+use Rattle.vr_policy_check.specs.Checked.{IsChecked}
 use Rattle.vr_policy_check.specs.Rules.{CheckedData, grant_names, program_names, pin_paths}
 use Rattle.vr_rights.specs.Tables.{names_of, names_of_pipes}
+use Rattle.vr_rights.proofs.ZipLemmas.{zip_length}
+
+-- a tree for each pipeline that is listed
+pub tree_each : (checked : CheckedData) (policy : PolicyData) (listed : List Pipeline) → IsChecked checked → policy ≡ checked.policy → listed ≡ policy.pipelines → length listed ≡ length checked.pipes
+tree_each checked policy listed h same is = ap length is ∙ ap (λ (p : PolicyData). length p.pipelines) same ∙ zip_length _ _ _ h.trees
 
 -- one more pipeline
 pub one_more_pipe : (old n₀ n₁ n₂ : List (List ℕ)) (pipes : List Tree) (place : ℕ) (pipe : Tree) → place < length pipes → slice_get pipes place ≡ Some pipe

@@ -1,5 +1,5 @@
 -- The law of one word in each region, for whatever regions a policy has.
-use Rattle.std.proofs.Common.{◌≡◌, ℕ, List, [], map, Option, None, Some, option_and_then, All, Contains, refl, sym, ◌∙◌, ap, get_or, subst}
+use Rattle.std.proofs.Common.{◌≡◌, ℕ, List, [], map, Option, None, Some, option_and_then, All, Contains, refl, sym, ◌∙◌, ap, get_or, slice_get, subst}
 use Rattle.std.proofs.lemmas.List.{get_or-map, get_or_default}
 use Rattle.std.proofs.lemmas.Option.{get_or_from_slice_get, slice_get_within}
 use Rattle.vr_base.specs.Rights.{word_on}
@@ -13,6 +13,7 @@ use Rattle.vr_rights.specs.Words.{word_in}
 use Rattle.vr_rights.proofs.MakingLemmas.{known_names_of}
 use Rattle.vr_rights.proofs.RegionLemmas.{region_has, place_is}
 use Rattle.vr_rights.proofs.WordLemmas.{law_inside, law_outside}
+use Rattle.vr_rights.proofs.ZipLemmas.{mapped_at}
 
 -- the word of grants on a path, by the path's region
 pub word_of_path : (names : List (List ℕ)) (grants : List (List ℕ × ℕ)) (path : List ℕ) → IsOrdered names → All (λ grant. Contains names grant.0) grants
@@ -29,22 +30,22 @@ word_of_path names grants path ordered known = by_cases (region_of names path) r
             let place : place_of names region ≡ Some k = subst (λ n. place_of names n ≡ Some k) name (place_is names k ordered l) in
             law_inside names path region grants known e ∙ ap (λ n. word_in n grants) (sym name) ∙ sym (get_or-map (λ n. word_in n grants) names k [] 0 l) ∙ ap (word_at (map (λ n. word_in n grants) names)) (sym place)
 
+-- the same, where a table has a row for each holder
+row_of_path : {X : Type 0} (grants_of : X → List (List ℕ × ℕ)) (names : List (List ℕ)) (holders : List X) (table : List (List ℕ)) (place : ℕ) (holder : X) (path : List ℕ)
+    → IsOrdered names → table ≡ map (λ x. map (λ name. word_in name (grants_of x)) names) holders
+    → All (λ x. All (λ grant. Contains names grant.0) (grants_of x)) holders → slice_get holders place ≡ Some holder
+    → word_on path (grants_of holder) ≡ word_at (get_or table place []) (region_number names path)
+row_of_path grants_of names holders table place holder path ordered same known e =
+    let is : get_or holders place holder ≡ holder = get_or_from_slice_get holders place holder holder e in
+    let row : get_or table place [] ≡ map (λ name. word_in name (grants_of holder)) names =
+    ap (λ t. get_or t place []) same ∙ mapped_at (λ x. map (λ name. word_in name (grants_of x)) names) holders place holder [] e in
+    let grants = subst (λ x. All (λ (g : List ℕ × ℕ). Contains names g.0) (grants_of x)) is (known place holder (slice_get_within holders place holder e)) in
+    word_of_path names (grants_of holder) path ordered grants ∙ ap (λ r. word_at r (region_number names path)) (sym row)
+
 pub one_word : (checked : CheckedData) (regions : RegionsData) → IsRegionsOf checked regions → HasOneWord checked regions
 one_word checked regions h =
     let known = known_names_of regions.names checked h.all in
     record {
-      identities = λ place identity path e.
-          (let within = slice_get_within checked.policy.identities place identity e in
-          let is : get_or checked.policy.identities place identity ≡ identity = get_or_from_slice_get checked.policy.identities place identity identity e in
-          let row : get_or regions.identities place [] ≡ map (λ name. word_in name identity.grants) regions.names =
-          ap (λ (r : RegionsData). get_or r.identities place []) h.tables ∙ get_or-map (λ (i : Identity). map (λ name. word_in name i.grants) regions.names) checked.policy.identities place identity [] within ∙ ap (λ (i : Identity). map (λ name. word_in name i.grants) regions.names) is in
-          let grants = subst (λ (i : Identity). All (λ (g : List ℕ × ℕ). Contains regions.names g.0) i.grants) is (known.identities place identity within) in
-          word_of_path regions.names identity.grants path h.ordered grants ∙ ap (λ r. word_at r (region_number regions.names path)) (sym row));
-      programs = λ place program path e.
-          (let within = slice_get_within checked.policy.programs place program e in
-          let is : get_or checked.policy.programs place program ≡ program = get_or_from_slice_get checked.policy.programs place program program e in
-          let row : get_or regions.programs place [] ≡ map (λ name. word_in name program.grants) regions.names =
-          ap (λ (r : RegionsData). get_or r.programs place []) h.tables ∙ get_or-map (λ (p : Program). map (λ name. word_in name p.grants) regions.names) checked.policy.programs place program [] within ∙ ap (λ (p : Program). map (λ name. word_in name p.grants) regions.names) is in
-          let grants = subst (λ (p : Program). All (λ (g : List ℕ × ℕ). Contains regions.names g.0) p.grants) is (known.programs place program within) in
-          word_of_path regions.names program.grants path h.ordered grants ∙ ap (λ r. word_at r (region_number regions.names path)) (sym row));
+      identities = λ place identity path e. row_of_path (λ (i : Identity). i.grants) regions.names checked.policy.identities regions.identities place identity path h.ordered (ap (λ (r : RegionsData). r.identities) h.tables) known.identities e;
+      programs = λ place program path e. row_of_path (λ (p : Program). p.grants) regions.names checked.policy.programs regions.programs place program path h.ordered (ap (λ (r : RegionsData). r.programs) h.tables) known.programs e;
     }

@@ -8,6 +8,7 @@ use Rattle.vr_base.specs.Cuts.{parts_at}
 use Rattle.vr_base.specs.Names.{IsPath, grant_of, normal_form, names_directory, segments, grant_segments, segment_fault, first_segment_fault, name_fault, length_fault, byte_fault}
 use Rattle.vr_base.specs.Signs.{slash}
 use Rattle.vr_base.specs.declared.names.PathFault.{PathFault}
+use Rattle.vr_base.proofs.FaultLemmas.{answered, neither}
 
 some_or : {A : Type 0} (first rest : Option A) → IsSome rest → IsSome (option_or first rest)
 some_or None rest h = h
@@ -41,24 +42,14 @@ ending name t =
     let last = (bytes_decides (codes "/") (drop (length name - 1) name)).0 t in
     sym (take-append-drop (length name - 1) name) ∙ ap (λ rest. take (length name - 1) name ++ rest) (sym last)
 
--- what a path is: its own normal form, without a fault
-no_fault : (fault : Option PathFault) (form name : List ℕ) → unless_fault fault form ≡ Ok name → (fault ≡ None) × (form ≡ name)
-no_fault None form name e = (refl, cc)
-no_fault (Some fault) form name e = cc
-
-none_at_last : {A : Type 0} (a b c : Option A) → option_or a (option_or b c) ≡ None → c ≡ None
-none_at_last None None c e = e
-none_at_last None (Some b) c e = cc
-none_at_last (Some a) b c e = cc
-
 pub path_no_directory : (path : List ℕ) → IsPath path → names_directory path ≡ false
 path_no_directory path h = by_test (names_directory path) refl
   where
     fine : (name_fault path (segments (normal_form path)) ≡ None) × (normal_form path ≡ path)
-    fine = no_fault (name_fault path (segments (normal_form path))) (normal_form path) path h
+    fine = answered (name_fault path (segments (normal_form path))) (normal_form path) path h
 
     no_segment : first_segment_fault (segments path) ≡ None
-    no_segment = rw fine.1 at (none_at_last (length_fault (normal_form path)) (byte_fault path) (first_segment_fault (segments (normal_form path))) fine.0)
+    no_segment = rw fine.1 at (neither (byte_fault path) (first_segment_fault (segments (normal_form path))) (neither (length_fault (normal_form path)) _ fine.0).1).1
 
     never : names_directory path ≡ true → ⊥
     never t =
@@ -76,6 +67,6 @@ no_directory_segments form e = rw e refl
 -- the name of a grant on a path alone
 pub path_grant : (path : List ℕ) → IsPath path → grant_of path ≡ Ok path
 path_grant path h =
-    let form : normal_form path ≡ path = (no_fault (name_fault path (segments (normal_form path))) (normal_form path) path h).1 in
+    let form : normal_form path ≡ path = (answered (name_fault path (segments (normal_form path))) (normal_form path) path h).1 in
     let same = no_directory_segments (normal_form path) (rw form (path_no_directory path h)) in
     ap (λ parts. unless_fault (name_fault path parts) (normal_form path)) same ∙ h

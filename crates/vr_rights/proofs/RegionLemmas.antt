@@ -11,7 +11,7 @@ use Rattle.vr_rights.specs.Regions.{longest_name, region_of, place_of, region_nu
 use Rattle.vr_rights.specs.Ordered.{IsOrdered, IsAt, IsAfter}
 use Rattle.vr_rights.proofs.PrefixLemmas.{IsPrefix, prefix_length, encloses_of_test}
 use Rattle.vr_rights.proofs.LongestLemmas.{never_in_nothing, Contains-filter, Contains-from_filter, longest_is, longest_cases}
-use Rattle.vr_rights.proofs.PositionLemmas.{position_is}
+use Rattle.vr_base.proofs.Places.{first_passes}
 use Rattle.vr_rights.proofs.PathLemmas.{path_no_directory}
 use Rattle.vr_rights.proofs.SearchLemmas.{not_after}
 
@@ -100,7 +100,7 @@ pub place_is : (names : List (List ℕ)) (place : ℕ) → IsOrdered names → p
 place_is names place ordered there =
     let name = get_or names place [] in
     let here : bytes_eq name name ≡ true = (bytes_decides name name).1 refl in
-    position_is (λ listed. bytes_eq listed name) names place [] there here (λ j below.
+    first_passes (λ listed. bytes_eq listed name) names place [] there here (λ j below.
     texts_ties (get_or names j []) name ∙ ap is_eq (Less-from_sorted (slice_cmp nat_cmp) names j place [] ordered below there))
 
 -- the region of a path that is a name is the path

@@ -1,6 +1,8 @@
 -- Two lists that agree element by element.
-use Rattle.std.proofs.Common.{◌≡◌, suc, List, [], ◌∷◌, ◌++◌, length, map, refl, ap, All}
+use Rattle.std.proofs.Common.{◌≡◌, ℕ, suc, List, [], ◌∷◌, ◌++◌, length, map, Some, slice_get, get_or, refl, ap, ◌∙◌, All}
 use Rattle.std.specs.List.{AllZip, flat_map}
+use Rattle.std.proofs.lemmas.List.{get_or-map}
+use Rattle.std.proofs.lemmas.Option.{get_or_from_slice_get, slice_get_within}
 use Rattle.std.proofs.lemmas.List.Elements.{All-head, All-tail, All-nil, All-cons}
 
 module _ {A B : Type 0} (R : A → B → Type 0) where
@@ -58,3 +60,7 @@ zip_mapped R f (x ∷ xs) (z ∷ zs) h = (h.0, zip_mapped R f xs zs h.1)
 pub map_same : {X Y : Type 0} (f g : X → Y) (xs : List X) → ((x : X) → f x ≡ g x) → map f xs ≡ map g xs
 map_same f g [] h = refl
 map_same f g (x ∷ xs) h = rw (h x, map_same f g xs h) refl
+
+-- an element of a map
+pub mapped_at : {X Y : Type 0} (f : X → Y) (xs : List X) (i : ℕ) (x : X) (absent : Y) → slice_get xs i ≡ Some x → get_or (map f xs) i absent ≡ f x
+mapped_at f xs i x absent e = get_or-map f xs i x absent (slice_get_within xs i x e) ∙ ap f (get_or_from_slice_get xs i x x e)

@@ -31,8 +31,10 @@ word_observes word = has_any word observing_rights
 
 -- it modifies the region: it may unlink, or open and change
 abbrev pub word_modifies : ℕ → Bool
-word_modifies word = has_bit word path_unlink_file || (has_bit word path_open && has_any word changing_rights)
+word_modifies word =
+    has_bit word path_unlink_file || (has_bit word path_open && has_any word changing_rights)
 
+-- a program does so by its word in the region
 abbrev pub program_observes : Program → List ℕ → Bool
 program_observes program region = word_observes (word_in region program.grants)
 
@@ -47,10 +49,11 @@ is_among paths path = list_any (bytes_eq path) paths
 
 -- the programs of the policy that a pipeline runs, in either branch of an if too
 abbrev pub programs_run : PolicyData → PipeTree → List Program
-programs_run policy pipeline = filter (λ program. is_among (programs_of pipeline) program.name) policy.programs
+programs_run policy pipeline =
+    filter (λ program. is_among (programs_of pipeline) program.name) policy.programs
 
--- a pipeline observes its programs' own regions and those of its tests, whose names are these paths, and all that its
--- programs observe
+-- a pipeline observes its programs' own regions and those of its tests, whose names are these
+-- paths, and all that its programs observe
 abbrev pub pipeline_observes : PolicyData → PipeTree → List ℕ → Bool
 pipeline_observes policy pipeline region =
     is_among (programs_of pipeline) region || (is_among (tests_of pipeline) region
@@ -58,7 +61,8 @@ pipeline_observes policy pipeline region =
 
 -- a pipeline modifies what its programs modify
 abbrev pub pipeline_modifies : PolicyData → PipeTree → List ℕ → Bool
-pipeline_modifies policy pipeline region = list_any (λ program. program_modifies program region) (programs_run policy pipeline)
+pipeline_modifies policy pipeline region =
+    list_any (λ program. program_modifies program region) (programs_run policy pipeline)
 
 -- ---- identities
 
@@ -70,19 +74,24 @@ may_run identity pipeline = list_all (may_execute identity.grants) (programs_of 
 abbrev pub executable : CheckedData → Identity → List Tree
 executable checked identity = filter (λ pipe. may_run identity (pipe_tree pipe)) checked.pipes
 
--- an identity with a word in a region observes it: it may read, or append, or write where a quota tells what others wrote
+-- an identity with a word in a region observes it: it may read, or append, or write where a
+-- quota tells what others wrote
 abbrev pub caller_observes : ℕ → Bool → Bool
 caller_observes word has_quota =
-    has_bit word fd_read || ((has_bit word fd_seek && has_bit word fd_write) || (has_bit word fd_write && has_quota))
+    has_bit word fd_read
+    || ((has_bit word fd_seek && has_bit word fd_write) || (has_bit word fd_write && has_quota))
 
 -- an identity observes a region by its own word, or by a pipeline that it may execute
 abbrev pub identity_observes : CheckedData → Identity → List ℕ → Bool
 identity_observes checked identity region =
-    caller_observes (word_in region identity.grants) (is_some (quota_of region checked.policy.quotas))
-    || list_any (λ pipe. pipeline_observes checked.policy (pipe_tree pipe) region) (executable checked identity)
+    let has_quota = is_some (quota_of region checked.policy.quotas) in
+    let observes = λ (pipe : Tree). pipeline_observes checked.policy (pipe_tree pipe) region in
+    caller_observes (word_in region identity.grants) has_quota
+    || list_any observes (executable checked identity)
 
 -- an identity modifies a region where it may write, or by a pipeline that it may execute
 abbrev pub identity_modifies : CheckedData → Identity → List ℕ → Bool
 identity_modifies checked identity region =
+    let modifies = λ (pipe : Tree). pipeline_modifies checked.policy (pipe_tree pipe) region in
     has_bit (word_in region identity.grants) fd_write
-    || list_any (λ pipe. pipeline_modifies checked.policy (pipe_tree pipe) region) (executable checked identity)
+    || list_any modifies (executable checked identity)

@@ -14,7 +14,8 @@ IsOrdered names = IsStrictlySortedBy (slice_cmp nat_cmp) names
 -- the places of the longest names that enclose the first of the names
 pub record AreOuter (names : List (List ℕ)) (outer : List (Option ℕ)) : Type 0 where
   pub long : length outer ≤ length names
-  pub each : (place : ℕ) → place < length outer → IsOuter names (slice_index_or names place []) (slice_index_or outer place None)
+  pub each : (place : ℕ) → place < length outer
+      → IsOuter names (slice_index_or names place []) (slice_index_or outer place None)
 
 -- what the names of a policy keep
 pub record KeepsNames (names : List (List ℕ)) (outer : List (Option ℕ)) : Type 0 where
@@ -23,12 +24,17 @@ pub record KeepsNames (names : List (List ℕ)) (outer : List (Option ℕ)) : Ty
   pub outer_are : AreOuter names outer
   pub few : length names < 2 ^ 32
 
--- The place is one of the first, and each directory that encloses the name includes the one at the place.
+-- The place is one of the first, and each directory that encloses the name
+-- includes the one at the place.
 pub record Includes (names : List (List ℕ)) (first : ℕ) (name : List ℕ) (place : ℕ) : Type 0 where
   pub within : place < first
-  pub through : All (λ directory. encloses directory name ≡ true → starts_with nat_eq (slice_index_or names place []) directory ≡ true) names
+  pub through : All
+      (λ directory. encloses directory name ≡ true
+      → starts_with nat_eq (slice_index_or names place []) directory ≡ true)
+      names
 
--- each directory that encloses the name includes the one at the place; none does where there is no place
+-- each directory that encloses the name includes the one at the place; none
+-- does where there is no place
 abbrev pub Reaches : List (List ℕ) → ℕ → List ℕ → Option ℕ → Type 0
 Reaches names first name None = All (λ directory. encloses directory name ≡ false) names
 Reaches names first name (Some place) = Includes names first name place
@@ -47,4 +53,5 @@ pub record IsAt (names : List (List ℕ)) (name : List ℕ) (place : ℕ) : Type
 pub record IsAfter (names : List (List ℕ)) (name : List ℕ) (place : ℕ) : Type 0 where
   pub within : place ≤ length names
   pub less : AllWithin (λ listed. slice_cmp nat_cmp listed name ≡ Less) names 0 place
-  pub greater : AllWithin (λ listed. slice_cmp nat_cmp listed name ≡ Greater) names place (length names)
+  pub greater : AllWithin (λ listed. slice_cmp nat_cmp listed name ≡ Greater)
+      names place (length names)

@@ -9,4 +9,5 @@ least_of (n ∷ ns) = Some (fold min n ns)
 
 -- the quota of a region: the least of those on its name, none where none is
 abbrev pub quota_of : List ℕ → List Quota → Option ℕ
-quota_of region quotas = least_of (map (λ quota. quota.bytes) (filter (λ quota. bytes_eq quota.name region) quotas))
+quota_of region quotas =
+    least_of (map (λ quota. quota.bytes) (filter (λ quota. bytes_eq quota.name region) quotas))

@@ -1,4 +1,5 @@
--- Names that include one another, and the region of a path: the longest of a policy's names that covers it.
+-- Names that include one another, and the region of a path: the longest of a
+-- policy's names that covers it.
 use Rattle.std.specs.Prelude.{◌≡◌, ℕ, Bool, true, false, nat_eq, nat_lt, ◌&&◌, ◌==◌, ◌<◌, ◌≤◌, List, length, map, filter, find, position, bytes_eq, Option, None, Some, option_and_then, All, slice_index_or, [], if◌then◌else◌}
 use Rattle.std.specs.List.{starts_with}
 use Rattle.vr_base.specs.Names.{covers, names_directory}
@@ -22,18 +23,23 @@ region_number names path = option_and_then (place_of names) (region_of names pat
 
 -- a grant's name includes a region: it covers every path that the region's name covers
 abbrev pub includes : List ℕ → List ℕ → Bool
-includes grant region = if names_directory grant then starts_with nat_eq region grant else bytes_eq grant region
+includes grant region =
+    if names_directory grant then starts_with nat_eq region grant else bytes_eq grant region
 
 -- a directory encloses what is in it, and not itself
 abbrev pub encloses : List ℕ → List ℕ → Bool
 encloses directory name =
-    names_directory directory && (starts_with nat_eq name directory && nat_lt (length directory) (length name))
+    names_directory directory
+    && (starts_with nat_eq name directory && nat_lt (length directory) (length name))
 
 -- It is the place of the longest of the names that enclose a name.
 pub record IsNearest (names : List (List ℕ)) (name : List ℕ) (place : ℕ) : Type 0 where
   pub within : place < length names
   pub enclosing : encloses (slice_index_or names place []) name ≡ true
-  pub longest : All (λ directory. encloses directory name ≡ true → length directory ≤ length (slice_index_or names place [])) names
+  pub longest : All
+      (λ directory. encloses directory name ≡ true
+      → length directory ≤ length (slice_index_or names place []))
+      names
 
 -- the place of the longest of the names that enclose a name, none where none does
 abbrev pub IsOuter : List (List ℕ) → List ℕ → Option ℕ → Type 0

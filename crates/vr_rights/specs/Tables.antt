@@ -14,9 +14,11 @@ use Rattle.vr_rights.specs.Words.{word_in, missing_program}
 
 -- the names that pipelines write: of their programs and tests
 abbrev pub names_of_pipes : List Tree → List (List ℕ)
-names_of_pipes pipes = flat_map (λ pipe. programs_of (pipe_tree pipe) ++ tests_of (pipe_tree pipe)) pipes
+names_of_pipes pipes =
+    flat_map (λ pipe. programs_of (pipe_tree pipe) ++ tests_of (pipe_tree pipe)) pipes
 
--- the names that a policy writes: of grants, programs, pinned files, the programs and tests of pipelines, quotas
+-- the names that a policy writes: of grants, programs, pinned files, the programs
+-- and tests of pipelines, quotas
 abbrev pub names_of : CheckedData → List (List ℕ)
 names_of checked =
     flat_map (λ identity. grant_names identity.grants) checked.policy.identities
@@ -26,9 +28,9 @@ names_of checked =
     ++ (names_of_pipes checked.pipes
     ++ map (λ quota. quota.name) checked.policy.quotas))))
 
--- The names of the regions in their order. For each identity and for each program its word in each region. For each
--- identity and each pipeline the first of the pipeline's program places that the identity may not execute. For each
--- region its quota.
+-- The names of the regions in their order. For each identity and for each program its word in each
+-- region. For each identity and each pipeline the first of the pipeline's program places that the
+-- identity may not execute. For each region its quota.
 pub record RegionsData : Type 0 where
   pub names : List (List ℕ)
   pub identities : List (List ℕ)
@@ -40,13 +42,18 @@ pub record RegionsData : Type 0 where
 abbrev pub tables_over : List (List ℕ) → CheckedData → RegionsData
 tables_over names checked = record {
   names = names;
-  identities = map (λ identity. map (λ name. word_in name identity.grants) names) checked.policy.identities;
-  programs = map (λ program. map (λ name. word_in name program.grants) names) checked.policy.programs;
-  missing = map (λ identity. map (λ pipe. missing_program identity.grants (pipe_tree pipe)) checked.pipes) checked.policy.identities;
+  identities =
+      map (λ identity. map (λ name. word_in name identity.grants) names) checked.policy.identities;
+  programs =
+      map (λ program. map (λ name. word_in name program.grants) names) checked.policy.programs;
+  missing =
+      map (λ identity. map (λ pipe. missing_program identity.grants (pipe_tree pipe)) checked.pipes)
+      checked.policy.identities;
   quotas = map (λ name. quota_of name checked.policy.quotas) names;
 }
 
--- The regions of a policy: each of its names once, in the order of their bytes, and what it says over them.
+-- The regions of a policy: each of its names once, in the order of their
+-- bytes, and what it says over them.
 pub record IsRegionsOf (checked : CheckedData) (regions : RegionsData) : Type 0 where
   pub ordered : IsOrdered regions.names
   pub all : All (Contains regions.names) (names_of checked)
@@ -67,10 +74,14 @@ abbrev pub word_at : List ℕ → Option ℕ → ℕ
 word_at row None = 0
 word_at row (Some region) = slice_index_or row region 0
 
--- The law of one word in each region: the word of a holder on a path is its word in the path's region, and 0 where the
--- path has no region.
+-- The law of one word in each region: the word of a holder on a path is its word in the path's
+-- region, and 0 where the path has no region.
 pub record HasOneWord (checked : CheckedData) (regions : RegionsData) : Type 0 where
-  pub identities : (place : ℕ) (identity : Identity) (path : List ℕ) → slice_get checked.policy.identities place ≡ Some identity
-      → word_on path identity.grants ≡ word_at (slice_index_or regions.identities place []) (region_number regions.names path)
-  pub programs : (place : ℕ) (program : Program) (path : List ℕ) → slice_get checked.policy.programs place ≡ Some program
-      → word_on path program.grants ≡ word_at (slice_index_or regions.programs place []) (region_number regions.names path)
+  pub identities : (place : ℕ) (identity : Identity) (path : List ℕ)
+      → slice_get checked.policy.identities place ≡ Some identity
+      → word_on path identity.grants
+      ≡ word_at (slice_index_or regions.identities place []) (region_number regions.names path)
+  pub programs : (place : ℕ) (program : Program) (path : List ℕ)
+      → slice_get checked.policy.programs place ≡ Some program
+      → word_on path program.grants
+      ≡ word_at (slice_index_or regions.programs place []) (region_number regions.names path)

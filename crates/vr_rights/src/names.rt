@@ -10,7 +10,8 @@ use std::cmp::Ordering;
 use std::marker::Model;
 use vr_base::{GrantName, NoMemory, Path};
 
-/// A name of the policy, in the order of names, which is that of their bytes. Contracts see it as its bytes.
+/// A name of the policy, in the order of names, which is that of their bytes.
+/// Contracts see it as its bytes.
 #[derive(Debug, Drop)]
 pub struct Name {
     name: GrantName,
@@ -82,7 +83,8 @@ impl Ord for Name {
     }
 }
 
-/// The names of a policy, each once, in the order of their bytes. Contracts see them as the list of their bytes.
+/// The names of a policy, each once, in the order of their bytes. Contracts see
+/// them as the list of their bytes.
 #[derive(Debug, Drop)]
 pub struct Names {
     names: Vec<Name>,

@@ -23,14 +23,16 @@ pub enum Holder {
     Program(u32),
 }
 
-/// The first of a pipeline's program places, counted from 0 in the order of the text, that an identity may not execute.
+/// The first of a pipeline's program places, counted from 0 in the order of the text, that
+/// an identity may not execute.
 #[derive(Clone, Copy, Debug, PartialEq, Eq)]
 pub struct Missing {
     pub program: u32,
 }
 
-/// The regions of a policy, which are its names: a path lies in the region of the longest name that covers it. Regions are
-/// numbered in the order of the bytes of their names. Contracts see them as tables of what they tell.
+/// The regions of a policy, which are its names: a path lies in the region of the longest name
+/// that covers it. Regions are numbered in the order of the bytes of their names. Contracts see
+/// them as tables of what they tell.
 #[derive(Debug, Drop)]
 pub struct Regions {
     names: Names,
@@ -133,8 +135,8 @@ fn least_with(least: Option<u64>, bytes: u64) -> u64
 }
 
 impl Regions {
-    /// The regions of a policy. It takes time in proportion to the policy's size and the logarithm of the number of its
-    /// names, and memory in proportion to the policy's size.
+    /// The regions of a policy. It takes time in proportion to the policy's size and the logarithm
+    /// of the number of its names, and memory in proportion to the policy's size.
     pub fn new(alloc: Global, policy: &CheckedPolicy) -> Result<Regions, NoMemory>
         ensures regions { IfOk result (IsRegionsOf policy.now) }
         ensures one_word { IfOk result (HasOneWord policy.now) }

@@ -9,7 +9,8 @@ use std::alloc::Global;
 use std::marker::Model;
 use vr_base::{EXECUTE, Grants, NoMemory, Right, RightsWord};
 
-/// The grants of an identity or a program, each as its word at the place of the name, in the order of the places.
+/// The grants of an identity or a program, each as its word at the place of the
+/// name, in the order of the places.
 #[derive(Debug, Drop)]
 pub struct Words {
     items: Vec<(u32, RightsWord)>,

@@ -56,7 +56,7 @@ end_byte = 0x0b
 abbrev pub zero_index_byte : ℕ
 zero_index_byte = 0x00
 
--- the numbers behind the prefix 0xfc (Core 2.0, section 5.4.6)
+-- the numbers after the prefix 0xfc (Core 2.0, section 5.4.6)
 abbrev pub memory_copy_number : ℕ
 memory_copy_number = 10
 

@@ -1,4 +1,5 @@
--- Answers that stop at the first fault, and what a call's result tells of the answer that a definition gives.
+-- Answers that stop at the first fault, and what a call's result tells of the
+-- answer that a definition gives.
 use Rattle.std.specs.Prelude.{◌≡◌, Result, Ok, Err}
 use Rattle.std.specs.Borrow.{Bor}
 

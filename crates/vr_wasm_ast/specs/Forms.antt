@@ -1,5 +1,5 @@
--- The opcodes, and what follows each of them (WebAssembly Core 1.0, section 5.4, without floating point; Core 2.0,
--- section 5.4.6, for memory.copy and memory.fill).
+-- The opcodes, and what follows each of them (WebAssembly Core 1.0, section 5.4, without floating
+-- point; Core 2.0, section 5.4.6, for memory.copy and memory.fill).
 use Rattle.std.specs.Prelude.{ℕ, Option, None, Some, Bool, true, false, if◌then◌else◌, ◌==◌, is_some, ◌||◌}
 use Rattle.vr_wasm_ast.specs.declared.instr.Instr.{Instr}
 use Rattle.vr_wasm_ast.specs.declared.instr.Instr.TheVariants.{Unreachable, Nop, Br, BrIf, Return, Call, Drop, Select, LocalGet, LocalSet, LocalTee, GlobalGet, GlobalSet, Load, Store, MemorySize, MemoryGrow, Numeric}
@@ -68,5 +68,6 @@ is_float_type b = is_between 0x7c 0x7d b
 -- an opcode of floating point
 abbrev pub is_float_opcode : ℕ → Bool
 is_float_opcode op =
-    is_between 0x2a 0x2b op || is_between 0x38 0x39 op || is_between 0x43 0x44 op || is_between 0x5b 0x66 op
+    is_between 0x2a 0x2b op || is_between 0x38 0x39 op || is_between 0x43 0x44 op
+    || is_between 0x5b 0x66 op
     || is_between 0x8b 0xa6 op || is_between 0xa8 0xab op || is_between 0xae 0xbf op

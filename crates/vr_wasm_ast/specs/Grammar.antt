@@ -1,12 +1,13 @@
--- Grammars: which bytes spell which value (WebAssembly Core 1.0, section 5.1.1). A grammar cuts the bytes into parts and
--- says of each part what it spells.
+-- Grammars: which bytes spell which value (WebAssembly Core 1.0, section 5.1.1). A grammar cuts the
+-- bytes into parts and says of each part what it spells.
 use Rattle.std.specs.Prelude.{◌≡◌, ℕ, zero, suc, List, [], ◌∷◌, ◌++◌, length, ◌⊎◌}
 
 abbrev pub Grammar : Type 0 → Type 1
 Grammar A = List ℕ → A → Type 0
 
 -- the bytes are those of the first part, which spell some value, and then those that it asks for
-pub record Sequence {A B : Type 0} (R : List ℕ → A → Type 0) (S : A → List ℕ → B → Type 0) (text : List ℕ) (b : B) : Type 0 where
+pub record Sequence {A B : Type 0} (R : List ℕ → A → Type 0) (S : A → List ℕ → B → Type 0)
+    (text : List ℕ) (b : B) : Type 0 where
   pub prefix : List ℕ
   pub suffix : List ℕ
   pub value : A

@@ -1,4 +1,5 @@
--- What a module imports, by kind. Imports come first in each index space (WebAssembly Core 1.0, section 2.5.1).
+-- What a module imports, by kind. Imports come first in each index space
+-- (WebAssembly Core 1.0, section 2.5.1).
 use Rattle.std.specs.Prelude.{ℕ, List, Option, None, Some}
 use Rattle.std.specs.List.{filter_map}
 use Rattle.vr_wasm_ast.specs.declared.tree.GlobalType.{GlobalType}

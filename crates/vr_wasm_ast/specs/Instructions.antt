@@ -1,5 +1,5 @@
--- Instructions as data (WebAssembly Core 1.0, section 2.4; Core 2.0, section 2.4.6, for memory.copy and memory.fill),
--- under the standard's names.
+-- Instructions as data (WebAssembly Core 1.0, section 2.4; Core 2.0, section 2.4.6, for memory.copy
+-- and memory.fill), under the standard's names.
 use Rattle.std.specs.Prelude.{ℕ, ℤ, List, [], ◌∷◌, Option, map}
 use Rattle.vr_wasm_ast.specs.declared.instr.Instr.{Instr, fold-Instr}
 use Rattle.vr_wasm_ast.specs.declared.instr.Instr.TheOpen.{Instr-F}
@@ -11,7 +11,8 @@ mutual
     nop : Instruction
     block : Option ValType → Instructions → Instruction
     loop : Option ValType → Instructions → Instruction
-    -- the instructions of the branch that is taken at a number other than 0, and those of the other one
+    -- the instructions of the branch that is taken at a number other than
+    -- 0, and those of the other one
     if_ : Option ValType → Instructions → Instructions → Instruction
     br : ℕ → Instruction
     br_if : ℕ → Instruction

@@ -57,7 +57,9 @@ abbrev mutual
 
 -- its blocks nest within the limit, and so do the counts of its tables of labels
 abbrev pub CodeWithin : List Instr → Type 0
-CodeWithin body = (nesting (instructions_of body) ≤ most_nested) × TablesWithin most_items (instructions_of body)
+CodeWithin body =
+    (nesting (instructions_of body) ≤ most_nested)
+    × TablesWithin most_items (instructions_of body)
 
 abbrev pub TypeWithin : FuncType → Type 0
 TypeWithin sort = (length sort.params ≤ most_params) × (length sort.results ≤ most_results)

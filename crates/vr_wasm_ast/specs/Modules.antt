@@ -1,5 +1,6 @@
--- The module grammar (WebAssembly Core 1.0, chapter 5, by whose sections it goes), without floating point, with this
--- project's limits, and of Core 2.0 the sign extensions, memory.copy, memory.fill and the data count section.
+-- The module grammar (WebAssembly Core 1.0, chapter 5, by whose sections it goes), without
+-- floating point, with this project's limits, and of Core 2.0 the sign extensions, memory.copy,
+-- memory.fill and the data count section.
 use Rattle.std.specs.Prelude.{◌≡◌, ℕ, suc, ◌-◌, ◌<◌, ◌≤◌, ℤ, List, [], ◌∷◌, ◌++◌, length, replicate, Option, None, Some, Bool, true, false}
 use Rattle.std.specs.List.{flat_map, sum_by}
 use Rattle.std.specs.Str.{IsUtf8}
@@ -166,8 +167,9 @@ operands then_number = do
   n ← u32
   range_operands n
 
--- The bytes spell these instructions, in which blocks nest at most so deep (5.4.1): nothing; an instruction that has none in
--- it, and others; a block, a loop, or an `if` without or with `else`, and others.
+-- The bytes spell these instructions, in which blocks nest at most so deep (5.4.1):
+-- nothing; an instruction that has none in it, and others; a block, a loop, or an `if`
+-- without or with `else`, and others.
 pub data Spells : ℕ → List ℕ → List Instr → Type 0 where
   nothing : {deep : ℕ} → Spells deep [] []
   plain : {deep op : ℕ} {form : Form} (text rest : List ℕ) {i : Instr} {is : List Instr}
@@ -175,16 +177,21 @@ pub data Spells : ℕ → List ℕ → List Instr → Type 0 where
       → Spells deep (op ∷ (text ++ rest)) (i ∷ is)
   block : {deep : ℕ} (sort inner rest : List ℕ) (t : Option ValType) (body is : List Instr)
       → block_type sort t → Spells deep inner body → Spells (suc deep) rest is
-      → Spells (suc deep) (block_opcode ∷ (sort ++ (inner ++ (end_byte ∷ rest)))) (Block t body ∷ is)
+      → Spells (suc deep) (block_opcode ∷ (sort ++ (inner ++ (end_byte ∷ rest))))
+      (Block t body ∷ is)
   loop : {deep : ℕ} (sort inner rest : List ℕ) (t : Option ValType) (body is : List Instr)
       → block_type sort t → Spells deep inner body → Spells (suc deep) rest is
       → Spells (suc deep) (loop_opcode ∷ (sort ++ (inner ++ (end_byte ∷ rest)))) (Loop t body ∷ is)
   if_only : {deep : ℕ} (sort inner rest : List ℕ) (t : Option ValType) (body is : List Instr)
       → block_type sort t → Spells deep inner body → Spells (suc deep) rest is
       → Spells (suc deep) (if_opcode ∷ (sort ++ (inner ++ (end_byte ∷ rest)))) (If t body [] ∷ is)
-  if_else : {deep : ℕ} (sort inner other rest : List ℕ) (t : Option ValType) (body branch is : List Instr)
-      → block_type sort t → Spells deep inner body → Spells deep other branch → Spells (suc deep) rest is
-      → Spells (suc deep) (if_opcode ∷ (sort ++ (inner ++ (else_byte ∷ (other ++ (end_byte ∷ rest)))))) (If t body branch ∷ is)
+  if_else : {deep : ℕ} (sort inner other rest : List ℕ) (t : Option ValType)
+      (body branch is : List Instr)
+      → block_type sort t → Spells deep inner body → Spells deep other branch
+      → Spells (suc deep) rest is
+      → Spells (suc deep)
+      (if_opcode ∷ (sort ++ (inner ++ (else_byte ∷ (other ++ (end_byte ∷ rest))))))
+      (If t body branch ∷ is)
 
 abbrev pub instructions : Grammar (List Instr)
 instructions = Spells most_nested
@@ -234,7 +241,8 @@ abbrev pub export_kind : Grammar ExportKind
 export_kind =
     either (byte_then function_kind (gives exported.Func))
     (either (byte_then table_kind (gives exported.Table))
-    (either (byte_then memory_kind (gives exported.Memory)) (byte_then global_kind (gives exported.Global))))
+    (either (byte_then memory_kind (gives exported.Memory))
+    (byte_then global_kind (gives exported.Global))))
 
 abbrev pub export : Grammar Export
 export = do
@@ -304,10 +312,12 @@ segments data_count = do
   n ← u32
   where_ (IsAsTold data_count n) (where_ (n ≤ most_items) (many n segment))
 
+-- the same with another module
 abbrev pub with_tree : Progress → Module → Progress
 with_tree p tree = record p { tree = tree }
 
--- The contents of a section add its part. Functions are at most 65,536, imported ones counted, and each has its code.
+-- The contents of a section add its part. Functions are at most 65,536, imported ones
+-- counted, and each has its code.
 abbrev pub section : Progress → Section → Grammar Progress
 section p Types = do
   types ← vector most_items func_type
@@ -356,22 +366,38 @@ custom = do
 abbrev pub IsComplete : Progress → Type 0
 IsComplete p = HasCodeForEach p.tree × IsAsTold p.data_count (length p.tree.segments)
 
--- The bytes spell the sections that follow those up to the one of this rank, 0 before the first, and make the module
--- whole. A section stands after those of lower rank; custom sections may stand anywhere, and are left out. The module
--- has nothing of a data count section: it is there or not, and the other rules don't speak of it.
+-- The bytes spell the sections that follow those up to the one of this rank, 0 before the first,
+-- and make the module whole. A section stands after those of lower rank; custom sections may stand
+-- anywhere, and are left out. So is the number of a data count section, and where none stands
+-- nothing is asked of the segments: bytes that are a module by the rules of Core 1.0 are that
+-- module.
 pub data IsSections : ℕ → Progress → List ℕ → Module → Type 0 where
   none : {last : ℕ} {p : Progress} → IsComplete p → IsSections last p [] p.tree
   left_out : {last : ℕ} {p : Progress} {m : Module} (text rest any : List ℕ)
-      → in_contents custom text any → IsSections last p rest m → IsSections last p (custom_id ∷ (text ++ rest)) m
+      → in_contents custom text any → IsSections last p rest m
+      → IsSections last p (custom_id ∷ (text ++ rest)) m
   next : {last id : ℕ} {s : Section} {p q : Progress} {m : Module} (text rest : List ℕ)
-      → section_of id ≡ Some s → last < rank_of s → in_contents (section p s) text q → IsSections (rank_of s) q rest m
+      → section_of id ≡ Some s → last < rank_of s → in_contents (section p s) text q
+      → IsSections (rank_of s) q rest m
       → IsSections last p (id ∷ (text ++ rest)) m
 
 -- ---- modules (section 5.5.15)
 
 -- a module without sections
 abbrev pub empty_module : Module
-empty_module = record { types = []; imports = []; functions = []; tables = []; memories = []; globals = []; exports = []; start = None; elements = []; codes = []; segments = [] }
+empty_module = record {
+  types = [];
+  imports = [];
+  functions = [];
+  tables = [];
+  memories = [];
+  globals = [];
+  exports = [];
+  start = None;
+  elements = [];
+  codes = [];
+  segments = [];
+}
 
 -- before the first section
 abbrev pub start : Progress

@@ -1,5 +1,6 @@
--- The opcodes that stand for a family of instructions alike: loads and stores (WebAssembly Core 1.0, section 5.4.4), and
--- the instructions on integers (section 5.4.5; Core 2.0, section 5.4.7, for those that extend a sign).
+-- The opcodes that stand for a family of instructions alike: loads and stores (WebAssembly Core
+-- 1.0, section 5.4.4), and the instructions on integers (section 5.4.5; Core 2.0, section 5.4.7,
+-- for those that extend a sign).
 use Rattle.std.specs.Prelude.{ℕ, suc, List, [], ◌∷◌, Option, None, Some, Bool, true, false, if◌then◌else◌, ◌==◌, nat_lt}
 use Rattle.vr_wasm_ast.specs.declared.tree.ValType.{ValType}
 use Rattle.vr_wasm_ast.specs.declared.tree.ValType.TheVariants.{I32, I64}
@@ -13,7 +14,8 @@ is_between first last op = if nat_lt op first then false else nat_lt op (suc las
 
 -- a value of this type, in 2 to this power bytes, and whether a load copies their sign
 abbrev pub access_of : ValType → ℕ → Bool → Option MemoryAccess
-access_of value exponent signed = Some record { value = value; exponent = exponent; signed = signed }
+access_of value exponent signed =
+    Some record { value = value; exponent = exponent; signed = signed }
 
 -- what the load of this opcode moves
 abbrev pub load_of : ℕ → Option MemoryAccess

@@ -1,5 +1,5 @@
--- The sections, without the custom ones: their ids, and the order in which they stand (WebAssembly Core 1.0, section
--- 5.5.2; Core 2.0 for the data count, which stands before the codes).
+-- The sections, without the custom ones: their ids, and the order in which they stand (WebAssembly
+-- Core 1.0, section 5.5.2; Core 2.0 for the data count, which stands before the codes).
 use Rattle.std.specs.Prelude.{ℕ, Option, None, Some, if◌then◌else◌, ◌==◌}
 use Rattle.vr_wasm_ast.specs.declared.sections.Section.{Section}
 use Rattle.vr_wasm_ast.specs.declared.sections.Section.TheVariants.{Types, Imports, Functions, Tables, Memories, Globals, Exports, Start, Elements, DataCount, Codes, Segments}

@@ -15,8 +15,8 @@ pub enum LebFault {
     Short,
 }
 
-/// A place in bytes, from which they are read up to a stop. Contracts see the bytes that are left, and the offset of
-/// the first of them.
+/// A place in bytes, from which they are read up to a stop. Contracts see the bytes that are left,
+/// and the offset of the first of them.
 #[derive(Debug, Drop)]
 pub struct Cursor<'a> {
     left: &'a [u8],
@@ -157,7 +157,8 @@ impl<'a> Cursor<'a> {
         }
     }
 
-    /// Takes so many bytes, as a cursor over them; `None`, and nothing is taken, where fewer are left.
+    /// Takes so many bytes, as a cursor over them; `None`, and nothing is
+    /// taken, where fewer are left.
     pub fn take(&mut self, count: u32) -> Option<Cursor<'a>>
         ensures none { IfNone result ((length self.old.bytes < count) × (self.new ≡ self.old)) }
         ensures within { IfSome result (λ _. count ≤ length self.old.bytes) }
@@ -205,8 +206,8 @@ impl<'a> Cursor<'a> {
         Ok(number)
     }
 
-    /// Takes an unsigned number of 32 bits in LEB128 (WebAssembly Core 1.0, section 5.2.2). After an
-    /// `Err` nothing is taken.
+    /// Takes an unsigned number of 32 bits in LEB128 (WebAssembly Core 1.0, section 5.2.2).
+    /// After an `Err` nothing is taken.
     pub fn read_u32(&mut self) -> Result<u32, LebFault>
         ensures found { IfOk result (ConsumesAs (IsUnsigned 32) self.old self.new) }
         // It is too long, or an unused bit of it is wrong.

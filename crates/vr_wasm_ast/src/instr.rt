@@ -1,8 +1,8 @@
 use crate::tree::ValType;
 use sqlite_items::Items;
 
-/// An instruction (WebAssembly Core 1.0, section 2.4), without floating point, and with the copy and the fill of a
-/// memory and the sign extensions of Core 2.0.
+/// An instruction (WebAssembly Core 1.0, section 2.4), without floating point, and with the copy
+/// and the fill of a memory and the sign extensions of Core 2.0.
 #[derive(Debug, Drop)]
 pub enum Instr {
     Unreachable,
@@ -11,8 +11,8 @@ pub enum Instr {
     Block(Option<ValType>, Items<Instr>),
     /// The type of its result, and its instructions.
     Loop(Option<ValType>, Items<Instr>),
-    /// The type of its result, the instructions of the taken branch and those of the other one, none where the text
-    /// has no `else`.
+    /// The type of its result, the instructions of the taken branch and those of the other one,
+    /// none where the text has no `else`.
     If(Option<ValType>, Items<Instr>, Items<Instr>),
     Br(u32),
     BrIf(u32),
@@ -29,9 +29,11 @@ pub enum Instr {
     LocalTee(u32),
     GlobalGet(u32),
     GlobalSet(u32),
-    /// The opcode, the exponent of the alignment and the offset: see [`load_access`](crate::load_access).
+    /// The opcode, the exponent of the alignment and the offset: see
+    /// [`load_access`](crate::load_access).
     Load(u8, u32, u32),
-    /// The opcode, the exponent of the alignment and the offset: see [`store_access`](crate::store_access).
+    /// The opcode, the exponent of the alignment and the offset: see
+    /// [`store_access`](crate::store_access).
     Store(u8, u32, u32),
     MemorySize,
     MemoryGrow,

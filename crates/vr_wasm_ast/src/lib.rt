@@ -1,5 +1,5 @@
-//! WebAssembly modules as trees: the abstract syntax of WebAssembly Core 1.0, chapter 2, without floating point, and
-//! with the sign extensions and the copy and fill of memory of Core 2.0.
+//! WebAssembly modules as trees: the abstract syntax of WebAssembly Core 1.0, chapter 2, without
+//! floating point, and with the sign extensions and the copy and fill of memory of Core 2.0.
 #![tactic(auto)]
 
 mod cursor;

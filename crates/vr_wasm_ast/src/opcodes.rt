@@ -1,6 +1,6 @@
-//! The opcodes that stand for a family of instructions alike: loads, stores, and the instructions on integers
-//! (WebAssembly Core 1.0, sections 5.4.4 and 5.4.5, without floating point; Core 2.0, section 5.4.7, for those that
-//! extend a sign).
+//! The opcodes that stand for a family of instructions alike: loads, stores, and the instructions
+//! on integers (WebAssembly Core 1.0, sections 5.4.4 and 5.4.5, without floating point; Core 2.0,
+//! section 5.4.7, for those that extend a sign).
 
 ghost use Rattle.std.specs.Prelude.{◌≡◌};
 ghost use Rattle.vr_wasm_ast.specs.Opcodes.{access_of, load_of, store_of, numeric_of};
@@ -14,8 +14,8 @@ pub struct MemoryAccess {
     pub value: ValType,
     /// The exponent of its natural alignment: 2 to this power bytes are read or written.
     pub exponent: u32,
-    /// Whether a load fills the bits of its value above those that it reads with copies of the highest one, and else
-    /// with zeros. False for a store, and for a load of all bits.
+    /// Whether a load fills the bits of its value above those that it reads with copies of the
+    /// highest one, and else with zeros. False for a store, and for a load of all bits.
     pub signed: bool,
 }
 
@@ -81,7 +81,8 @@ pub fn store_access(op: u8) -> Option<MemoryAccess>
     }
 }
 
-/// The family of the instruction on integers of this opcode; `None` where no such instruction has it.
+/// The family of the instruction on integers of this opcode; `None`
+/// where no such instruction has it.
 pub fn numeric_family(op: u8) -> Option<NumericFamily>
     ensures { result ≡ numeric_of op }
 {

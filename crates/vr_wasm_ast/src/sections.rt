@@ -1,5 +1,5 @@
-//! The sections of a module, without the custom ones (WebAssembly Core 1.0, section 5.5; Core 2.0, section 5.5.15, for
-//! the data count).
+//! The sections of a module, without the custom ones (WebAssembly Core 1.0, section 5.5; Core 2.0,
+//! section 5.5.15, for the data count).
 
 ghost use Rattle.std.specs.Prelude.{◌≡◌};
 ghost use Rattle.vr_wasm_ast.specs.Sections.{section_of, rank_of};
@@ -25,7 +25,8 @@ pub enum Section {
 }
 
 impl Section {
-    /// The section with this id; `None` for that of custom sections, 0, and for one that no section has.
+    /// The section with this id; `None` for that of custom sections, 0, and
+    /// for one that no section has.
     pub fn from_id(id: u8) -> Option<Section>
         ensures { result ≡ section_of id }
     {

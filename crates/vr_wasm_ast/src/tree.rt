@@ -26,7 +26,8 @@ fn are_same(types: &[ValType], others: &[ValType]) -> bool
 }
 
 impl FuncType {
-    /// Whether the two are one type, as an indirect call asks (WebAssembly Core 1.0, section 4.4.5).
+    /// Whether the two are one type, as an indirect call asks
+    /// (WebAssembly Core 1.0, section 4.4.5).
     pub fn equals(&self, other: &FuncType) -> bool
         ensures { IsTrue result ↔ (self.now ≡ other.now) }
     {

@@ -183,29 +183,27 @@ module _ (deep : ℕ) (inner : Inner) (finds : (may_else : Bool) → Finds (inne
                   (first_if deep sort t typed h.prefix is h.spelled));
             }
 
-  block_found : Finds (nested_at inner block_opcode) (λ back i. IsFirst (suc deep) (block_opcode ∷ back) i)
+  -- a block or a loop: its type, and instructions that `end` ends
+  one_body_found : (op : ℕ) (make : Option ValType → List Instr → Instr)
+      → ((t : Option ValType) (before : Rest) → after_type_at inner op t before ≡ on_ok (inner false before) (λ body. give (make t body.0)))
+      → ((sort : List ℕ) (t : Option ValType) → grammar.block_type sort t → (prefix : List ℕ) (body : List Instr) → Spells deep prefix body → IsFirst (suc deep) (op ∷ (sort ++ (prefix ++ end_byte ∷ []))) (make t body))
+      → Finds (nested_at inner op) (λ back i. IsFirst (suc deep) (op ∷ back) i)
   unfolding nested_at
-  block_found before i after e =
-      let p = bind_ok (block_type_at before) (after_type_at inner block_opcode) (i, after) e in
+  one_body_found op make reads first before i after e =
+      let p = bind_ok (block_type_at before) (after_type_at inner op) (i, after) e in
       let sort = reads_block_type.found before p.0 p.1 p.2 in
-      let b = body_found (Block p.0) p.1 i after p.3 in
+      let b = body_found (make p.0) p.1 i after (sym (reads p.0 p.1) ∙ p.3) in
       record {
         text = sort.text ++ (b.0 ++ end_byte ∷ []);
         taken = takes_then before sort.text p.1 (b.0 ++ end_byte ∷ []) after sort.taken b.2;
-        spelled = subst (λ (j : Instr). IsFirst (suc deep) (block_opcode ∷ (sort.text ++ (b.0 ++ end_byte ∷ []))) j) b.4 (first_block deep sort.text p.0 sort.spelled b.0 b.1 b.3);
+        spelled = subst (λ (j : Instr). IsFirst (suc deep) (op ∷ (sort.text ++ (b.0 ++ end_byte ∷ []))) j) b.4 (first sort.text p.0 sort.spelled b.0 b.1 b.3);
       }
 
+  block_found : Finds (nested_at inner block_opcode) (λ back i. IsFirst (suc deep) (block_opcode ∷ back) i)
+  block_found = one_body_found block_opcode Block (λ t before. refl) (first_block deep)
+
   loop_found : Finds (nested_at inner loop_opcode) (λ back i. IsFirst (suc deep) (loop_opcode ∷ back) i)
-  unfolding nested_at
-  loop_found before i after e =
-      let p = bind_ok (block_type_at before) (after_type_at inner loop_opcode) (i, after) e in
-      let sort = reads_block_type.found before p.0 p.1 p.2 in
-      let b = body_found (Loop p.0) p.1 i after p.3 in
-      record {
-        text = sort.text ++ (b.0 ++ end_byte ∷ []);
-        taken = takes_then before sort.text p.1 (b.0 ++ end_byte ∷ []) after sort.taken b.2;
-        spelled = subst (λ (j : Instr). IsFirst (suc deep) (loop_opcode ∷ (sort.text ++ (b.0 ++ end_byte ∷ []))) j) b.4 (first_loop deep sort.text p.0 sort.spelled b.0 b.1 b.3);
-      }
+  loop_found = one_body_found loop_opcode Loop (λ t before. refl) (first_loop deep)
 
   if_found : Finds (nested_at inner if_opcode) (λ back i. IsFirst (suc deep) (if_opcode ∷ back) i)
   unfolding nested_at

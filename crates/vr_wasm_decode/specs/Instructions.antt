@@ -1,4 +1,5 @@
--- Reading instructions (WebAssembly Core 1.0, section 5.4; Core 2.0, section 5.4.6, for memory.copy and memory.fill).
+-- Reading instructions (WebAssembly Core 1.0, section 5.4; Core 2.0, section 5.4.6, for
+-- memory.copy and memory.fill).
 use Rattle.std.specs.Prelude.{ℕ, zero, suc, ◌-◌, List, [], ◌∷◌, length, Option, None, Some, Err, Bool, true, false, ◌==◌, ◌&&◌, if◌then◌else◌}
 use Rattle.vr_wasm_ast.specs.declared.instr.Instr.{Instr}
 use Rattle.vr_wasm_ast.specs.declared.instr.Instr.TheVariants.{Block, Loop, If, BrTable, CallIndirect, MemoryCopy, MemoryFill, I32Const, I64Const}
@@ -73,8 +74,8 @@ plain_at op place = form_at (form_of op) op place
 
 -- ---- instructions that have others in them
 
--- Instructions, and whether `else` ended them. An instruction with others in it reads them by what is given: up to
--- `end`, or where true up to `else`.
+-- Instructions, and whether `else` ended them. An instruction with others in it reads them by what
+-- is given: up to `end`, or where true up to `else`.
 abbrev pub Inner : Type 0
 Inner = Bool → Reader (List Instr × Bool)
 
@@ -107,11 +108,13 @@ nested_at inner op = do
 -- an instruction after its opcode, where blocks may nest so deep
 unfoldable pub instruction_at : Inner → ℕ → ℕ → ℕ → Reader Instr
 instruction_at inner deep op place =
-    if is_between block_opcode if_opcode op then (if deep == 0 then stop TooMany place else nested_at inner op)
+    if is_between block_opcode if_opcode op
+    then (if deep == 0 then stop TooMany place else nested_at inner op)
     else plain_at op place
 
 -- the end after its opcode, or an instruction and the others
-unfoldable pub from_opcode_at : Reader (List Instr × Bool) → Inner → ℕ → Bool → ℕ → ℕ → Reader (List Instr × Bool)
+unfoldable pub from_opcode_at : Reader (List Instr × Bool) → Inner → ℕ → Bool → ℕ → ℕ
+    → Reader (List Instr × Bool)
 from_opcode_at others inner deep may_else op place =
     if op == end_byte then give ([], false)
     else if (op == else_byte) && may_else then give ([], true)
@@ -120,14 +123,15 @@ from_opcode_at others inner deep may_else op place =
       is ← others
       give (first ∷ is.0, is.1))
 
--- Instructions up to `end`, or up to `else` where it may stand there, in which blocks may nest so deep. At most fuel of
--- them are read, which is enough where it is the number of the bytes.
+-- Instructions up to `end`, or up to `else` where it may stand there, in which blocks may nest so
+-- deep. At most fuel of them are read, which is enough where it is the number of the bytes.
 unfoldable pub sequence_at : ℕ → ℕ → Bool → Reader (List Instr × Bool)
 sequence_at zero deep may_else before = Err (fault_at SectionSize before.place)
 sequence_at (suc fuel) deep may_else before = (do
   place ← here
   op ← byte_at
-  from_opcode_at (sequence_at fuel deep may_else) (sequence_at fuel (deep - 1)) deep may_else op place) before
+  from_opcode_at (sequence_at fuel deep may_else) (sequence_at fuel (deep - 1))
+      deep may_else op place) before
 
 -- 5.4.6
 unfoldable pub expression_at : Reader (List Instr)

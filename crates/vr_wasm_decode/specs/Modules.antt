@@ -139,7 +139,8 @@ unfoldable pub segments_at : Option ℕ → Reader (List Segment)
 segments_at data_count = do
   place ← here
   n ← u32_at
-  if is_count_told data_count n then (if nat_lt most_items n then stop TooMany place else items_at n segment_at)
+  if is_count_told data_count n
+      then (if nat_lt most_items n then stop TooMany place else items_at n segment_at)
       else stop Counts place
 
 -- the contents of a section add its part
@@ -212,22 +213,28 @@ any_section_at id place last p =
 -- each function has its code, and there are as many data segments as told, or the counts differ
 abbrev pub finished_at : Progress → ℕ → Result Module DecodeFault
 finished_at p place =
-    if (length p.tree.functions == length p.tree.codes) && is_count_told p.data_count (length p.tree.segments) then Ok p.tree
+    if (length p.tree.functions == length p.tree.codes)
+    && is_count_told p.data_count (length p.tree.segments) then Ok p.tree
     else Err (fault_at Counts place)
 
 -- the end, or a section and what goes on from it
-abbrev pub next_section_at : (ℕ → Progress → Rest → Result Module DecodeFault) → ℕ → Progress → ℕ → List ℕ → Result Module DecodeFault
+abbrev pub next_section_at : (ℕ → Progress → Rest → Result Module DecodeFault)
+    → ℕ → Progress → ℕ → List ℕ → Result Module DecodeFault
 next_section_at go_on last p place [] = finished_at p place
-next_section_at go_on last p place (id ∷ bytes) = on_ok (any_section_at id place last p (rest (place + 1) bytes)) (λ next after. go_on next.0 next.1 after)
+next_section_at go_on last p place (id ∷ bytes) =
+    on_ok (any_section_at id place last p (rest (place + 1) bytes))
+    (λ next after. go_on next.0 next.1 after)
 
--- The sections after those up to the one of this rank make the module whole. At most fuel of them are read, which is
--- enough where it is the number of the bytes.
+-- The sections after those up to the one of this rank make the module whole. At most fuel of them
+-- are read, which is enough where it is the number of the bytes.
 unfoldable pub sections_at : ℕ → ℕ → Progress → Rest → Result Module DecodeFault
 sections_at zero last p before = finished_at p before.place
-sections_at (suc fuel) last p before = next_section_at (sections_at fuel) last p before.place before.bytes
+sections_at (suc fuel) last p before =
+    next_section_at (sections_at fuel) last p before.place before.bytes
 
 -- the module that the bytes spell, or their first fault
 unfoldable pub module_of : List ℕ → Result Module DecodeFault
 module_of bytes =
-    if starts_with nat_eq bytes header then sections_at (length bytes) 0 start (rest 8 (drop 8 bytes))
+    if starts_with nat_eq bytes header
+    then sections_at (length bytes) 0 start (rest 8 (drop 8 bytes))
     else Err (fault_at Magic 0)

@@ -1,5 +1,5 @@
--- Reading from left to right: each reader gives a value and what is left, or the first fault. A reader bears the name of
--- what it reads, and `_at`.
+-- Reading from left to right: each reader gives a value and what is left, or the first fault. A
+-- reader bears the name of what it reads, and `_at`.
 use Rattle.std.specs.Prelude.{ℕ, zero, suc, ◌+◌, ℤ, List, [], ◌∷◌, length, take, drop, Result, Ok, Err, nat_lt, ◌==◌, if◌then◌else◌}
 use Rattle.vr_wasm_ast.specs.declared.cursor.LebFault.{LebFault}
 use Rattle.vr_wasm_ast.specs.declared.cursor.LebFault.TheVariants as leb
@@ -17,7 +17,8 @@ abbrev pub Reader : Type 0 → Type 0
 Reader A = Rest → Result (A × Rest) DecodeFault
 
 -- goes on with what was read, and with what is left
-abbrev pub on_ok : {A B : Type 0} → Result (A × Rest) DecodeFault → (A → Rest → Result B DecodeFault) → Result B DecodeFault
+abbrev pub on_ok : {A B : Type 0} → Result (A × Rest) DecodeFault
+    → (A → Rest → Result B DecodeFault) → Result B DecodeFault
 on_ok read f = checks.◌>>=◌ read (λ x. f x.0 x.1)
 
 infixl 10 ◌>>=◌
@@ -60,7 +61,8 @@ expect_at wanted = do
   if b == wanted then give tt else stop BadByte place
 
 -- a number, or the kind of the fault where its bytes end first
-abbrev pub number_or : {N : Type 0} → DecodeKind → ℕ → Result (N × Rest) LebFault → Result (N × Rest) DecodeFault
+abbrev pub number_or : {N : Type 0} → DecodeKind → ℕ → Result (N × Rest) LebFault
+    → Result (N × Rest) DecodeFault
 number_or short place (Ok x) = Ok x
 number_or short place (Err leb.Bad) = Err (fault_at Leb place)
 number_or short place (Err leb.Short) = Err (fault_at short place)

@@ -21,7 +21,8 @@ use Rattle.vr_wasm_decode.specs.Reader.{Reader, ◌>>=◌, give, here, stop, byt
 -- so many bytes, which are items one by one: the first that is missing would stand at the end
 abbrev pub bytes_at : ℕ → Reader (List ℕ)
 bytes_at n before =
-    if nat_lt (length before.bytes) n then Err (fault_at SectionSize (before.place + length before.bytes))
+    if nat_lt (length before.bytes) n
+    then Err (fault_at SectionSize (before.place + length before.bytes))
     else Ok (take n before.bytes, rest (before.place + n) (drop n before.bytes))
 
 unfoldable pub data_bytes_at : Reader (List ℕ)
@@ -101,7 +102,8 @@ unfoldable pub flag_at : Reader Bool
 flag_at = do
   place ← here
   b ← byte_at
-  if b == constant_byte then give false else if b == variable_byte then give true else stop BadByte place
+  if b == constant_byte then give false
+      else if b == variable_byte then give true else stop BadByte place
 
 unfoldable pub global_type_at : Reader GlobalType
 global_type_at = do

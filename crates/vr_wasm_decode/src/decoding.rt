@@ -13,13 +13,13 @@ use crate::sections::read_module;
 use std::alloc::Global;
 use vr_wasm_ast::Module;
 
-/// The module that the bytes spell (WebAssembly Core 1.0, chapter 5, without floating point; of Core 2.0 the sign
-/// extensions, `memory.copy`, `memory.fill` and the data count section), within this project's limits, without its
-/// custom sections. A fault is that of the first item, from the left, that can't be read, at the offset of the item's
-/// first byte.
+/// The module that the bytes spell (WebAssembly Core 1.0, chapter 5, without floating point; of
+/// Core 2.0 the sign extensions, `memory.copy`, `memory.fill` and the data count section), within
+/// this project's limits, without its custom sections. A fault is that of the first item, from the
+/// left, that can't be read, at the offset of the item's first byte.
 ///
-/// Takes time and memory linear in the bytes and in the locals that functions declare, which are at most 8,192 of each
-/// function, and an item of the module for each.
+/// Takes time and memory linear in the number of the bytes plus that of the locals that functions
+/// declare: a few bytes declare up to 8,192 of a function, and the module keeps each by itself.
 pub fn decode(alloc: Global, bytes: &[u8]) -> Result<Module, DecodeFault>
     requires { length bytes.now ≤ 16777216 }
     // What is decoded is so spelled.

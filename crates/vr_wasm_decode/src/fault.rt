@@ -15,15 +15,18 @@ pub enum DecodeKind {
     Truncated,
     /// A number in LEB128 is too long, or an unused bit of it is wrong.
     Leb,
-    /// A section that is no custom one doesn't stand after the last such one in the order of sections.
+    /// A section that is no custom one doesn't stand after the last such
+    /// one in the order of sections.
     SectionOrder,
     /// An item passes the end of its section or code entry, or the contents end before it.
     SectionSize,
-    /// A byte is none of those that may stand there, or a number after the prefix `fc` is that of no instruction.
+    /// A byte is none of those that may stand there, or a number after the prefix
+    /// `fc` is that of no instruction.
     BadByte,
     /// A name is not UTF-8.
     Utf8,
-    /// The function and code sections have different counts, or a data count is not that of the data section.
+    /// The function and code sections have different counts, or a data count is
+    /// not that of the data section.
     Counts,
     /// A type or an instruction of floating point.
     Float,

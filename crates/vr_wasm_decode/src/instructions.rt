@@ -1,5 +1,5 @@
-//! Instructions and expressions (WebAssembly Core 1.0, section 5.4; Core 2.0, section 5.4.6, for the copy and the fill
-//! of a memory).
+//! Instructions and expressions (WebAssembly Core 1.0, section 5.4; Core 2.0, section 5.4.6, for
+//! the copy and the fill of a memory).
 
 ghost use Rattle.std.specs.Prelude.{◌≡◌, ℕ, ◌-◌, ◌≤◌, ◌<◌, length};
 ghost use Rattle.vr_wasm_ast.specs.Forms.{family_of, then_number};
@@ -201,8 +201,8 @@ fn instruction(
     }
 }
 
-/// Instructions up to `end`, or up to `else` where it may stand there, in which blocks may nest so deep; and whether
-/// `else` ended them.
+/// Instructions up to `end`, or up to `else` where it may stand there, in which blocks may nest so
+/// deep; and whether `else` ended them.
 #[cycle(nesting)]
 fn sequence(
     alloc: Global,

@@ -1,5 +1,5 @@
-//! Decoding of WebAssembly modules: from their binary format (WebAssembly Core 1.0, chapter 5) to the module tree,
-//! or the first fault of the bytes.
+//! Decoding of WebAssembly modules: from their binary format (WebAssembly Core 1.0, chapter 5) to
+//! the module tree, or the first fault of the bytes.
 #![tactic(auto)]
 
 mod decoding;

@@ -14,7 +14,8 @@ pub fn fault(kind: DecodeKind, at: u32) -> ReadError
     ReadError::Fault(DecodeFault { kind, at })
 }
 
-/// The fault of a number whose first byte is at this offset; of the kind `short` where its bytes end first.
+/// The fault of a number whose first byte is at this offset; of the kind
+/// `short` where its bytes end first.
 fn number_fault(why: LebFault, short: DecodeKind, at: u32) -> ReadError
     ensures bad { why ≡ LebFault.Bad → result ≡ ReadError.Fault (fault_at DecodeKind.Leb at) }
     ensures short { why ≡ LebFault.Short → result ≡ ReadError.Fault (fault_at short at) }
@@ -100,7 +101,8 @@ pub fn count(cursor: &mut Cursor<'_>, limit: u32) -> Result<u32, ReadError>
     Ok(count)
 }
 
-/// A size and so many bytes, as a cursor over them; the kind of fault where the size or the bytes pass the end.
+/// A size and so many bytes, as a cursor over them; the kind of fault where the
+/// size or the bytes pass the end.
 #[tactic(auto, unfolding(crate::specs::Reader::contents_at))]
 pub fn contents<'a>(cursor: &mut Cursor<'a>, short: DecodeKind) -> Result<Cursor<'a>, ReadError>
     ensures { Gives result cursor.new (contents_at short cursor.old) }

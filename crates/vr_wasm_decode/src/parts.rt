@@ -1,5 +1,5 @@
-//! The parts of a module: imports, globals, exports, segments and the bodies of functions (WebAssembly Core 1.0,
-//! sections 5.5.5 to 5.5.14).
+//! The parts of a module: imports, globals, exports, segments and the bodies of functions
+//! (WebAssembly Core 1.0, sections 5.5.5 to 5.5.14).
 
 ghost use Rattle.std.specs.Prelude.{◌≡◌, ◌+◌, ◌++◌, length, replicate, OnOk, vec_len, ◌≤◌};
 ghost use Rattle.vr_wasm_decode.specs.Reader.{Gives, sized_at};

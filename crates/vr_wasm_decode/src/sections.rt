@@ -197,8 +197,8 @@ fn custom<'a>(cursor: &mut Cursor<'a>) -> Result<&'a [u8], ReadError>
     text(&mut inner)
 }
 
-/// A section after its id, which was at this offset: the rank of the last section that is no custom one then, and what
-/// the sections have made.
+/// A section after its id, which was at this offset: the rank of the last section that is no custom
+/// one then, and what the sections have made.
 #[tactic(auto, unfolding(crate::specs::Modules::any_section_at, crate::specs::Modules::numbered_at))]
 fn any_section(
     alloc: Global,
@@ -225,8 +225,8 @@ fn any_section(
     Ok((rank, next))
 }
 
-/// The module at the end of its sections, at this offset: each function has its code, and the data segments are as many
-/// as were told.
+/// The module at the end of its sections, at this offset: each function has its code, and the data
+/// segments are as many as were told.
 fn finished(so_far: Progress, at: u32) -> Result<Module, ReadError>
     ensures { GivesAll result (finished_at so_far at) }
 {

@@ -1,5 +1,5 @@
-//! Names, and the types of values, functions, tables, memories and globals (WebAssembly Core 1.0, sections 5.2.4 and
-//! 5.3).
+//! Names, and the types of values, functions, tables, memories and globals (WebAssembly Core
+//! 1.0, sections 5.2.4 and 5.3).
 
 ghost use Rattle.std.specs.Prelude.{◌≡◌};
 ghost use Rattle.std.specs.Str.{is_utf8 as is_text};
@@ -27,7 +27,8 @@ const I64: u8 = 0x7e;
 
 const NO_RESULT: u8 = 0x40;
 
-/// What stands before the type of a function, and before the limits of a table, whose elements are functions.
+/// What stands before the type of a function, and before the limits of a table,
+/// whose elements are functions.
 const FUNCTION_TYPE: u8 = 0x60;
 
 const FUNCTION_ELEMENTS: u8 = 0x70;

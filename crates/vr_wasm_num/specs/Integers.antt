@@ -1,4 +1,5 @@
--- Operations on integers of n bits (WebAssembly Core 1.0, section 4.3.2). Each operand is a whole number below 2 ^ n.
+-- Operations on integers of n bits (WebAssembly Core 1.0, section 4.3.2). Each operand
+-- is a whole number below 2 ^ n.
 use Rattle.std.specs.Prelude.{ℕ, ◌+◌, ◌-◌, ◌*◌, ◌/◌, ◌%◌, ◌^◌, ◌==◌, nat_lt, nat_le, ℤ, pos, negsuc, ◌-ℤ◌, Bool, if◌then◌else◌, Result, Ok, Err, bit_and, bit_or, bit_xor, count_ones, true, false}
 use Rattle.std.specs.Int.RustNames.{int_lt, int_le, int_div, int_rem}
 use Rattle.std.specs.Int.Count.{count_leading_zeros, count_trailing_zeros}
@@ -8,6 +9,7 @@ use Rattle.vr_wasm_num.specs.declared.trap.TheConstants.{DIVIDE_BY_ZERO, INTEGER
 
 -- ---- the operations
 
+-- on one operand
 pub data Unary : Type 0 where
   clz : Unary
   ctz : Unary
@@ -15,6 +17,7 @@ pub data Unary : Type 0 where
   -- from so many bits
   extend_s : ℕ → Unary
 
+-- on two operands
 pub data Binary : Type 0 where
   add : Binary
   sub : Binary
@@ -32,6 +35,7 @@ pub data Binary : Type 0 where
   rotl : Binary
   rotr : Binary
 
+-- tests of one operand for zero, and of two
 pub data Compare : Type 0 where
   eqz : Compare
   eq : Compare
@@ -45,6 +49,7 @@ pub data Compare : Type 0 where
   ge_s : Compare
   ge_u : Compare
 
+-- from one width to the other
 pub data Conversion : Type 0 where
   wrap_i64 : Conversion
   extend_i32_s : Conversion
@@ -61,9 +66,11 @@ abbrev pub unsigned : ℕ → ℤ → ℕ
 unsigned n (pos i) = i % 2 ^ n
 unsigned n (negsuc i) = 2 ^ n - 1 - i % 2 ^ n
 
+-- no result, but a trap of this kind
 abbrev pub trap : {A : Type 0} → ℕ → Result A Trap
 trap kind = Err record { kind = kind }
 
+-- the result of an operation on one operand of n bits
 abbrev pub unary : Unary → ℕ → ℕ → ℕ
 unary clz n i = count_leading_zeros n i
 unary ctz n i = count_trailing_zeros n i
@@ -78,6 +85,7 @@ divided j quotient = if j == 0 then trap DIVIDE_BY_ZERO else quotient
 abbrev pub fitting : ℕ → ℤ → Result ℕ Trap
 fitting n z = if int_lt z (pos (2 ^ (n - 1))) then Ok (unsigned n z) else trap INTEGER_OVERFLOW
 
+-- the result of an operation on two, or its trap
 abbrev pub binary : Binary → ℕ → ℕ → ℕ → Result ℕ Trap
 binary add n i j = Ok ((i + j) % 2 ^ n)
 binary sub n i j = Ok ((2 ^ n + i - j) % 2 ^ n)
@@ -99,6 +107,7 @@ binary rotr n i j = Ok (i / 2 ^ (j % n) + i * 2 ^ (n - j % n) % 2 ^ n)
 abbrev pub bit : Bool → ℕ
 bit holds = if holds then 1 else 0
 
+-- whether a test passes; that for zero doesn't look at the second operand
 abbrev pub compare : Compare → ℕ → ℕ → ℕ → Bool
 compare eqz n i j = i == 0
 compare eq n i j = i == j

@@ -1,4 +1,5 @@
--- Linear memory: a list of bytes (WebAssembly Core 1.0, sections 4.2.8 and 4.4.4, and copy and fill).
+-- Linear memory: a list of bytes (WebAssembly Core 1.0, sections 4.2.8
+-- and 4.4.4, and copy and fill).
 use Rattle.std.specs.Prelude.{ℕ, zero, suc, ◌+◌, ◌*◌, ◌/◌, ◌%◌, ◌≡◌, ◌≤◌, ◌⊎◌, Bool, ◌||◌, ◌==◌, nat_le, List, [], ◌∷◌, ◌++◌, length, take, drop, replicate}
 use Rattle.vr_wasm_num.specs.declared.memory.TheConstants.{PAGE_SIZE}
 
@@ -13,6 +14,7 @@ pub record IsPaged (m : Contents) : Type 0 where
   pub within : length m.bytes ≤ m.most * PAGE_SIZE
   pub few : m.most ≤ 1024
 
+-- how many pages there are
 abbrev pub pages_of : Contents → ℕ
 pages_of m = length m.bytes / PAGE_SIZE
 
@@ -45,7 +47,8 @@ part bytes at len = take len (drop at bytes)
 
 -- the memory with a piece in place of the bytes from a place on
 abbrev pub with_piece : Contents → ℕ → List ℕ → Contents
-with_piece m at piece = record m { bytes = take at m.bytes ++ piece ++ drop (at + length piece) m.bytes }
+with_piece m at piece =
+    record m { bytes = take at m.bytes ++ piece ++ drop (at + length piece) m.bytes }
 
 -- the memory with so many pages of zeros more
 abbrev pub with_pages : Contents → ℕ → Contents

@@ -22,8 +22,8 @@ pub fn i32_unary(op: u8, a: u32) -> u32
     }
 }
 
-/// The instruction of this opcode on two operands, where it doesn't trap: a division or a remainder by zero traps,
-/// and so does a signed division of the least value by -1.
+/// The instruction of this opcode on two operands, where it doesn't trap: a division or a remainder
+/// by zero traps, and so does a signed division of the least value by -1.
 #[tactic(auto, using(crate::proofs::RotationLemmas::rotated_left, crate::proofs::RotationLemmas::rotated_right))]
 pub fn i32_binary(op: u8, a: u32, b: u32) -> Result<u32, Trap>
     requires { IsSome (i32_binary_of op) }
@@ -49,7 +49,8 @@ pub fn i32_binary(op: u8, a: u32, b: u32) -> Result<u32, Trap>
     }
 }
 
-/// The comparison of this opcode: 1 where it holds, and else 0. The test for zero doesn't look at `b`.
+/// The comparison of this opcode: 1 where it holds, and else 0. The test
+/// for zero doesn't look at `b`.
 pub fn i32_compare(op: u8, a: u32, b: u32) -> u32
     requires { IsSome (i32_compare_of op) }
     ensures { IfSome (i32_compare_of op) (λ operation. result ≡ bit (compare operation 32 a b)) }

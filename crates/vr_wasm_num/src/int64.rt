@@ -23,8 +23,8 @@ pub fn i64_unary(op: u8, a: u64) -> u64
     }
 }
 
-/// The instruction of this opcode on two operands, where it doesn't trap: a division or a remainder by zero traps,
-/// and so does a signed division of the least value by -1.
+/// The instruction of this opcode on two operands, where it doesn't trap: a division or a remainder
+/// by zero traps, and so does a signed division of the least value by -1.
 #[tactic(auto, using(crate::proofs::RotationLemmas::rotated_left, crate::proofs::RotationLemmas::rotated_right))]
 pub fn i64_binary(op: u8, a: u64, b: u64) -> Result<u64, Trap>
     requires { IsSome (i64_binary_of op) }
@@ -50,7 +50,8 @@ pub fn i64_binary(op: u8, a: u64, b: u64) -> Result<u64, Trap>
     }
 }
 
-/// The comparison of this opcode: 1 where it holds, and else 0. The test for zero doesn't look at `b`.
+/// The comparison of this opcode: 1 where it holds, and else 0. The test
+/// for zero doesn't look at `b`.
 pub fn i64_compare(op: u8, a: u64, b: u64) -> u32
     requires { IsSome (i64_compare_of op) }
     ensures { IfSome (i64_compare_of op) (λ operation. result ≡ bit (compare operation 64 a b)) }

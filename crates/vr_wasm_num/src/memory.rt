@@ -33,14 +33,15 @@ impl Model for Memory {
 
     ghost view = { λ m. record { bytes = m.bytes.items; most = m.most } };
 
-    ghost invariant = { λ m. IsReserved (record { bytes = m.bytes.items; most = m.most }) (vec_capacity m.bytes) };
+    ghost invariant = { λ m.
+        IsReserved (record { bytes = m.bytes.items; most = m.most }) (vec_capacity m.bytes) };
 }
 
 impl Memory {
     ghost use Rattle.vr_wasm_num.specs.Memory.{Contents, IsPaged, IsWidth, is_within, pages_of, number_of, bytes_of, part, with_piece, with_pages};
 
-    /// So many pages of zeros, with room for so many pages at most. The room is reserved, and only the pages are
-    /// written.
+    /// So many pages of zeros, with room for so many pages at most. The room is reserved,
+    /// and only the pages are written.
     pub fn new(alloc: Global, pages: u32, most: u32) -> Result<Memory, NoMemory>
         requires pages { pages ≤ most }
         requires most { most ≤ 1024 }
@@ -76,8 +77,8 @@ impl Memory {
         Some(pages)
     }
 
-    /// So many bytes from a place on, or `None` where one of them lies past the end. No bytes are there wherever they
-    /// begin.
+    /// So many bytes from a place on, or `None` where one of them lies past the end. No bytes are
+    /// there wherever they begin.
     pub fn view(&self, at: u64, len: u64) -> Option<&[u8]>
         ensures fits { is_some result ≡ is_within self.now at len }
         ensures bytes { IfSome result (λ bytes. bytes.now ≡ part self.now.bytes at len) }
@@ -88,11 +89,13 @@ impl Memory {
         self.bytes_at(at, len)
     }
 
-    /// The number that 1, 2, 4 or 8 bytes spell, the lowest byte first, or `None` where one of them lies past the end.
+    /// The number that 1, 2, 4 or 8 bytes spell, the lowest byte first, or `None` where
+    /// one of them lies past the end.
     pub fn load(&self, at: u64, width: u8) -> Option<u64>
         requires { IsWidth width }
         ensures fits { IsSome result ↔ (at + width ≤ length self.now.bytes) }
-        ensures number { IfSome result (λ number. number ≡ number_of (part self.now.bytes at width)) }
+        ensures number { IfSome result (λ number.
+            number ≡ number_of (part self.now.bytes at width)) }
         ensures below { IfSome result (λ number. number < 2 ^ (8 * width)) }
     {
         let bytes = self.bytes_at(at, u64::from(width))?;
@@ -106,17 +109,18 @@ impl Memory {
         })
     }
 
-    /// Writes bytes from a place on. Where one of them would lie past the end, nothing is written. To write none succeeds
-    /// wherever they would begin.
+    /// Writes bytes from a place on. Where one of them would lie past the end, nothing is written.
+    /// To write none succeeds wherever they would begin.
     pub fn write(&mut self, at: u64, bytes: &[u8]) -> bool
         ensures fits { result ≡ is_within self.old at (length bytes.now) }
-        ensures written { self.new ≡ (if result then with_piece self.old at bytes.now else self.old) }
+        ensures written { self.new
+            ≡ (if result then with_piece self.old at bytes.now else self.old) }
     {
         bytes.is_empty() || self.place(at, bytes)
     }
 
-    /// Writes the lowest 1, 2, 4 or 8 bytes of a number, the lowest first. Where one of them would lie past the end,
-    /// nothing is written.
+    /// Writes the lowest 1, 2, 4 or 8 bytes of a number, the lowest first. Where one of them would
+    /// lie past the end, nothing is written.
     pub fn store(&mut self, at: u64, width: u8, value: u64) -> bool
         requires { IsWidth width }
         ensures fits { IsTrue result ↔ (at + width ≤ length self.old.bytes) }
@@ -126,8 +130,8 @@ impl Memory {
         self.place(at, &value.to_le_bytes()[..usize::from(width)])
     }
 
-    /// Copies so many bytes from one place to another, as they were before: the two ranges may overlap. Where either
-    /// passes the end, nothing is written.
+    /// Copies so many bytes from one place to another, as they were before: the two ranges may
+    /// overlap. Where either passes the end, nothing is written.
     pub fn copy_within(&mut self, to: u64, from: u64, len: u64) -> bool
         ensures fits { IsTrue result ↔
             ((to + len ≤ length self.old.bytes) × (from + len ≤ length self.old.bytes)) }
@@ -170,7 +174,8 @@ impl Memory {
     /// Writes bytes over a range that doesn't pass the end.
     fn place(&mut self, at: u64, bytes: &[u8]) -> bool
         ensures fits { IsTrue result ↔ (at + length bytes.now ≤ length self.old.bytes) }
-        ensures written { self.new ≡ (if result then with_piece self.old at bytes.now else self.old) }
+        ensures written { self.new
+            ≡ (if result then with_piece self.old at bytes.now else self.old) }
     {
         match self.range(at, bytes.len() as u64) {
             Some((start, end)) => {

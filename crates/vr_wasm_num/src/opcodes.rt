@@ -1,4 +1,5 @@
-//! The opcodes of the instructions on integers (WebAssembly Core 1.0, section 5.4.5, and the sign extensions).
+//! The opcodes of the instructions on integers (WebAssembly Core 1.0, section
+//! 5.4.5, and the sign extensions).
 
 pub const I32_EQZ: u8 = 0x45;
 

@@ -137,6 +137,10 @@ landed_of es st place base x below z r l =
       counted = l.counted;
     }
 
+-- the entry that was read at a place
+pub entry_read : (cs : List Control) (place at : ℕ) (found x : Control) → found ≡ get_or cs place found → place ≡ at → found ≡ x → x ≡ get_or cs at x
+entry_read cs place at found x is same known = subst (λ y. y ≡ get_or cs at y) known (is ∙ ap (λ k. get_or cs k found) same)
+
 -- the entry of a label, with the entries below it
 pub entry_at : (cs : List Control) (l : ℕ) (x : Control) → l < length cs → x ≡ get_or cs (length cs - 1 - l) x → drop l (reverse cs) ≡ x ∷ reverse (take (length cs - 1 - l) cs)
 entry_at cs l x less e =

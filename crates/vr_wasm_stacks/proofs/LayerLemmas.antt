@@ -13,6 +13,14 @@ use Rattle.vr_wasm_stacks.proofs.CountLemmas.{length-operands, height_within}
 use Rattle.vr_wasm_stacks.proofs.FlatLemmas.{operands-take, last_operands, layers-above, locals-above, position-above, rises_above}
 use Rattle.vr_wasm_stacks.proofs.JumpLemmas.{entry_at}
 
+-- the entries after a call, whose parameters are the last of so many values
+pub called_entries : (old new : List Control) (results : ℕ) (rest : Bor (List Instr)) (params locals frame base len height count : ℕ)
+    → len ≡ count → height ≡ count + locals → new ≡ old ++ Call results rest (len - params) height frame base ∷ []
+    → reverse new ≡ Call results rest (count - params) (count + locals) frame base ∷ reverse old
+called_entries old new results rest params locals frame base len height count same long pushed =
+    ap reverse pushed ∙ reverse-append old (Call results rest (len - params) height frame base ∷ [])
+    ∙ ap (λ n. Call results rest (n - params) height frame base ∷ reverse old) same ∙ ap (λ h. Call results rest (count - params) h frame base ∷ reverse old) long
+
 -- ---- the innermost frame's place
 
 depth_from : (es : List Control) (st ops : List ℕ) (place base : ℕ) → Keeps es place base → IsSome (jump_from (layers es st) (locals es st) ops (depth (layers es st))) → place + depth (layers es st) + 1 ≡ length es

@@ -21,7 +21,8 @@ pub enum Control<'m> {
         base: u32,
         /// Where its operands begin.
         height: u32,
-        /// Where the entry of the function that called it stands, and where that one's locals begin.
+        /// Where the entry of the function that called it stands, and
+        /// where that one's locals begin.
         caller: u32,
         caller_base: u32,
     },

@@ -32,7 +32,8 @@ impl<'m> Model for Stacks<'m> {
 
     ghost view = { λ s. position (reverse s.controls.items) s.values.items s.code.now };
 
-    ghost invariant = { λ s. IsSound (reverse s.controls.items) s.values.items s.frames s.frame s.base (vec_capacity s.values) (vec_capacity s.controls) };
+    ghost invariant = { λ s. IsSound (reverse s.controls.items) s.values.items
+        s.frames s.frame s.base (vec_capacity s.values) (vec_capacity s.controls) };
 }
 
 impl<'m> Stacks<'m> {
@@ -228,7 +229,8 @@ impl<'m> Stacks<'m> {
         self.code = body;
     }
 
-    /// Branches to a label of the innermost function, the innermost label being 0 and the function's own the last.
+    /// Branches to a label of the innermost function, the innermost label being 0 and
+    /// the function's own the last.
     pub fn branch(&mut self, label: usize)
         requires { IsSome (jump self.old label) }
         ensures { jump self.old label ≡ Some self.new }
@@ -300,7 +302,8 @@ fn push_zeros(values: &mut Vec<u64>, count: usize)
 /// Keeps the first values up to the base, and the last ones.
 fn keep(values: &mut Vec<u64>, base: usize, count: usize)
     requires { base + count ≤ length values.old.items }
-    ensures items { values.new.items ≡ take base values.old.items ++ drop (length values.old.items - count) values.old.items }
+    ensures items { values.new.items
+        ≡ take base values.old.items ++ drop (length values.old.items - count) values.old.items }
     ensures capacity { vec_capacity values.new ≡ vec_capacity values.old }
 {
     let from = values.len() - count;

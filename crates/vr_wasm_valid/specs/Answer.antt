@@ -22,7 +22,8 @@ abbrev pub IfPart : Invalid → (ℕ → ℕ → Type 0) → Type 0
 IfPart (Part part index) P = P part index
 IfPart OutOfMemory P = Unit {0}
 
--- the answer names the component at the place that was found, if one was; the first of the part has this index
+-- the answer names the component at the place that was found, if one was; the
+-- first of the part has this index
 pub record Refuses {U : Type 0} (part first : ℕ) (found : Option ℕ) (answer : Result U Invalid)
     : Type 0 where
   pub none : IfNone found (IsOk answer)

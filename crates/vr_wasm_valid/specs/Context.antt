@@ -8,8 +8,8 @@ use Rattle.vr_wasm_ast.specs.declared.tree.Module.{Module}
 use Rattle.vr_wasm_ast.specs.declared.tree.ValType.{ValType}
 use Rattle.vr_wasm_ast.specs.Imports.{imported_functions, imported_globals, imported_memories, imported_tables}
 
--- The types of a module and its index spaces, in which imports come first (section 2.5.1). A function is told by the
--- index of its type.
+-- The types of a module and its index spaces, in which imports come first (section 2.5.1). A
+-- function is told by the index of its type.
 pub record Spaces : Type 0 where
   pub types : List FuncType
   pub functions : List ℕ
@@ -17,8 +17,8 @@ pub record Spaces : Type 0 where
   pub memories : List Limits
   pub globals : List GlobalType
 
--- The module's spaces, and for a function's body its locals, its result and what the label of each open block wants,
--- the innermost first.
+-- The module's spaces, and for a function's body its locals, its result and what the label of each
+-- open block wants, the innermost first.
 pub record Context : Type 0 where
   pub spaces : Spaces
   pub locals : List ValType

@@ -1,5 +1,5 @@
--- The components of a module, in the order in which they are looked at, and the rule of each (WebAssembly Core 1.0,
--- sections 3.2, 3.3.7 and 3.4).
+-- The components of a module, in the order in which they are looked at, and the rule of each
+-- (WebAssembly Core 1.0, sections 3.2, 3.3.7 and 3.4).
 use Rattle.std.specs.Prelude.{◌≡◌, ◌≢◌, ℕ, ◌+◌, ◌<◌, ◌≤◌, List, [], ◌∷◌, ◌++◌, IsFalse, All, IfSome, IsSomeAnd, length, map, option_to_list, slice_get, take}
 use Rattle.std.specs.List.{enumerate_from, flat_map, zip}
 use Rattle.vr_wasm_ast.specs.declared.tree.Code.{Code}
@@ -121,8 +121,8 @@ pub data Component : Type 0 where
   the_body : ℕ × Code → Component
   the_segment : Segment → Component
 
--- The rule of a component of the module, whose index spaces these are. There is one table and one memory at most. The
--- first value of a global may name imported globals alone.
+-- The rule of a component of the module, whose index spaces these are. There is one table and one
+-- memory at most. The first value of a global may name imported globals alone.
 abbrev pub IsTypedIn : Spaces → Module → Component → Type 0
 IsTypedIn s m (the_import i) = ImportFits s i.what
 IsTypedIn s m (the_function sort) = sort < length s.types

@@ -1,9 +1,10 @@
--- What the checker knows of the operand types at a place, and what the rules of instructions make of it.
+-- What the checker knows of the operand types at a place, and what the
+-- rules of instructions make of it.
 use Rattle.std.specs.Prelude.{◌≡◌, List, [], ◌∷◌, Option, None, Some, Bool, true, false, IsTrue, IsFalse, Result, IfOk}
 use Rattle.vr_wasm_ast.specs.declared.tree.ValType.{ValType}
 
--- The last operand types, each known or not, and whether any others may lie below them, as they may where the code
--- can't be reached.
+-- The last operand types, each known or not, and whether any others may lie below them, as they may
+-- where the code can't be reached.
 pub data Shape : Type 0 where
   shape : List (Option ValType) → Bool → Shape
 
@@ -38,7 +39,8 @@ pub record Steps (before after : Shape) (R : Rule) : Type 0 where
 pub record Sticks (before : Shape) (R : Rule) : Type 0 where
   pub none : (earlier ts : List ValType) → Fits before earlier → R earlier ts → ⊥
 
--- the answer says whether the rule leads on from the shape, and the new shape is then where it leads
+-- the answer says whether the rule leads on from the shape, and the new
+-- shape is then where it leads
 pub record Moves (fine : Bool) (before after : Shape) (R : Rule) : Type 0 where
   pub steps : IsTrue fine → Steps before after R
   pub sticks : IsFalse fine → Sticks before R

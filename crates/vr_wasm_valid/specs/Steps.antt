@@ -1,5 +1,6 @@
--- The rules of the instructions (WebAssembly Core 1.0, section 3.3) as relations between the operand types before and
--- after, the last operand first. A typing that passes the test is a chain of such steps.
+-- The rules of the instructions (WebAssembly Core 1.0, section 3.3) as relations between
+-- the operand types before and after, the last operand first. A typing that passes the
+-- test is a chain of such steps.
 use Rattle.std.specs.Prelude.{◌≡◌, ◌≤◌, List, [], ◌∷◌, ◌++◌, Option, None, Some, IsTrue, slice_get}
 use Rattle.vr_wasm_ast.specs.declared.tree.ValType.{ValType}
 use Rattle.vr_wasm_ast.specs.declared.tree.ValType.TheVariants.{I32, I64}

@@ -1,5 +1,5 @@
--- Typings of instruction sequences as data, and the test of such data by the rules of WebAssembly Core 1.0, section
--- 3.3. Lists of operand types have the last operand first.
+-- Typings of instruction sequences as data, and the test of such data by the rules of WebAssembly
+-- Core 1.0, section 3.3. Lists of operand types have the last operand first.
 use Rattle.std.specs.Prelude.{◌≡◌, ℕ, ◌<◌, ◌≤◌, List, [], ◌∷◌, ◌++◌, Option, None, Some, IsTrue, All, IsSomeAnd, length, reverse, slice_get}
 use Rattle.vr_wasm_ast.specs.declared.tree.FuncType.{FuncType}
 use Rattle.vr_wasm_ast.specs.declared.tree.ValType.{ValType}
@@ -8,8 +8,8 @@ use Rattle.vr_wasm_ast.specs.Instructions.{Instruction, Instructions, unreachabl
 use Rattle.vr_wasm_ast.specs.Opcodes.{load_of, store_of, numeric_of, numeric_operands, numeric_result}
 use Rattle.vr_wasm_valid.specs.Context.{Context, Spaces, inside_block, function_type, result_of, result_list}
 
--- the operand types before each instruction of a sequence and at its end, with the typings of the sequences inside
--- each instruction
+-- the operand types before each instruction of a sequence and at its end, with the typings of the
+-- sequences inside each instruction
 mutual
   pub data Typing : Type 0 where
     ends : List ValType → Typing
@@ -35,7 +35,8 @@ last_of (at ts inner rest) = last_of rest
 abbrev pub Yields : Typing → Option ValType → Type 0
 Yields typing result = (first_of typing ≡ []) × (last_of typing ≡ result_list result)
 
--- the types before begin with the taken ones, and those after are the rest with the given ones in their place
+-- the types before begin with the taken ones, and those after are the rest with
+-- the given ones in their place
 abbrev pub Changes : List ValType → List ValType → List ValType → List ValType → Type 0
 Changes [] given before after = after ≡ given ++ before
 Changes (t ∷ taken) given [] after = ⊥
@@ -79,7 +80,8 @@ abbrev pub HasMemory : Spaces → Type 0
 HasMemory s = 0 < length s.memories
 
 abbrev mutual
-  -- The typing passes the test: each instruction by its rule, at the lists that the typing gives (section 3.3.6).
+  -- The typing passes the test: each instruction by its rule, at the lists that the
+  -- typing gives (section 3.3.6).
   pub Passes : Context → Instructions → Typing → Type 0
   Passes c done (ends ts) = Unit {0}
   Passes c done (at ts inner rest) = ⊥

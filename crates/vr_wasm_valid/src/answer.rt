@@ -29,10 +29,10 @@ pub const SEGMENTS: u8 = 11;
 /// Why a module isn't valid.
 #[derive(Clone, Copy, Debug, PartialEq, Eq)]
 pub enum Invalid {
-    /// The first component that breaks its rule, in the order of the parts: 2 imports, 3 functions' types, 4 tables,
-    /// 5 memories, 6 globals, 7 exports, 8 the start function, 9 element segments, 10 functions' bodies, 11 data
-    /// segments. The index of a function, a table, a memory or a global counts the imported ones first; of the other
-    /// parts it is the place in the list.
+    /// The first component that breaks its rule, in the order of the parts: 2 imports, 3 functions'
+    /// types, 4 tables, 5 memories, 6 globals, 7 exports, 8 the start function, 9 element segments,
+    /// 10 functions' bodies, 11 data segments. The index of a function, a table, a memory or a
+    /// global counts the imported ones first; of the other parts it is the place in the list.
     Part { part: u8, index: u32 },
     OutOfMemory,
 }
@@ -59,8 +59,8 @@ impl<T: Drop> From<AllocFailed<T>> for Invalid {
     }
 }
 
-/// The answer of a part whose first component has the index `first`, and in whose list the first that doesn't fit is at
-/// this place.
+/// The answer of a part whose first component has the index `first`, and in whose list the first
+/// that doesn't fit is at this place.
 pub fn refuse(part: u8, first: usize, unfit: Option<usize>) -> Result<(), Invalid>
     requires { IfSome unfit (λ place. first + place < 2 ^ 32) }
     ensures { Refuses part first unfit result }

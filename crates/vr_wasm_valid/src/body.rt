@@ -23,8 +23,8 @@ use vr_wasm_ast::{Code, FuncType, Instr, ValType};
 /// What a copy and a fill take: the destination, the source or the value, and the length.
 const RANGE: [ValType; 3] = [ValType::I32, ValType::I32, ValType::I32];
 
-/// Whether the instructions inside a block, a branch to which wants what `label` says, have a typing from no operands
-/// to the wanted result alone.
+/// Whether the instructions inside a block, a branch to which wants what `label` says, have a
+/// typing from no operands to the wanted result alone.
 #[cycle(sequence)]
 fn check_block(
     scope: &mut Scope,
@@ -62,8 +62,8 @@ fn check_sequence(
     Ok(true)
 }
 
-/// Whether the instruction can follow operands that the stack allows. The stack then allows the operands that it
-/// leaves.
+/// Whether the instruction can follow operands that the stack allows. The stack then allows
+/// the operands that it leaves.
 #[cycle(sequence)]
 fn check_instr(scope: &mut Scope, instr: &Instr, stack: &mut Stack) -> Result<bool, AllocError>
     ensures kept { OnOk result (scope.new ≡ scope.old) }

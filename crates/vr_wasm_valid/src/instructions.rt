@@ -1,5 +1,5 @@
-//! Instructions without others inside them. Each check says whether the instruction can follow operands that the stack
-//! allows; the stack then allows the operands that it leaves.
+//! Instructions without others inside them. Each check says whether the instruction can follow
+//! operands that the stack allows; the stack then allows the operands that it leaves.
 
 ghost use Rattle.std.specs.Prelude.{◌≡◌, [], ◌∷◌, ◌↔◌, reverse, slice_get, IsTrue, Some};
 ghost use Rattle.vr_wasm_ast.specs.Instructions.{br, br_if, br_table, call, call_indirect, global_get, global_set, load, local_get, local_set, local_tee, numeric, store};

@@ -1,5 +1,5 @@
-//! Validation of WebAssembly modules (WebAssembly Core 1.0, chapter 3, without floating point, and with the sign
-//! extensions and the copy and fill of memory of Core 2.0).
+//! Validation of WebAssembly modules (WebAssembly Core 1.0, chapter 3, without floating point, and
+//! with the sign extensions and the copy and fill of memory of Core 2.0).
 #![tactic(auto)]
 
 mod answer;

@@ -1,5 +1,5 @@
-//! The parts of a module (WebAssembly Core 1.0, sections 3.2 and 3.4): each search finds the first component of its
-//! part that breaks its rule.
+//! The parts of a module (WebAssembly Core 1.0, sections 3.2 and 3.4): each search finds the first
+//! component of its part that breaks its rule.
 
 ghost use Rattle.std.specs.Prelude.{◌≡◌, ◌<◌, ◌≤◌, ◌↔◌, ℕ, length, option_to_list, IfOk, IsTrue};
 ghost use Rattle.std.specs.List.{zip};

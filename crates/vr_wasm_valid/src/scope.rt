@@ -9,7 +9,8 @@ use sqlite_items::Items;
 use std::alloc::Global;
 use vr_wasm_ast::{FuncType, ValType};
 
-/// The locals and the result of a function, and what a branch to each open block wants, the innermost last.
+/// The locals and the result of a function, and what a branch to each open
+/// block wants, the innermost last.
 #[derive(Drop)]
 pub struct Scope<'m> {
     pub alloc: Global,
@@ -52,7 +53,8 @@ impl Scope<'_> {
         }
     }
 
-    /// What a branch to a label wants, if there is such a label. Label 0 is that of the innermost block.
+    /// What a branch to a label wants, if there is such a label. Label 0 is
+    /// that of the innermost block.
     pub fn label(&self, label: u32) -> Option<Option<ValType>>
         ensures { result ≡ slice_get (context_in self.now).labels label }
     {

@@ -9,8 +9,9 @@ use std::alloc::{AllocError, Global};
 use std::marker::Model;
 use vr_wasm_ast::ValType;
 
-/// What is known of the operand types at a place in the code: the last ones, each known or not, and whether any
-/// others may lie below them, as they may where the code can't be reached (WebAssembly Core 1.0, appendix A.3).
+/// What is known of the operand types at a place in the code: the last ones, each known or not,
+/// and whether any others may lie below them, as they may where the code can't be reached
+/// (WebAssembly Core 1.0, appendix A.3).
 #[derive(Drop)]
 pub struct Stack {
     alloc: Global,
@@ -119,8 +120,8 @@ impl Stack {
         fine
     }
 
-    /// Takes these operands off, the last one first. It looks at no more of them than are known: where the others may
-    /// be of any type, they aren't looked at one by one.
+    /// Takes these operands off, the last one first. It looks at no more of them than are known:
+    /// where the others may be of any type, they aren't looked at one by one.
     fn take_all(&mut self, wanted: &[ValType]) -> bool
         ensures { Moves result self.old self.new (Takes (reverse wanted.now) []) }
     {

@@ -78,8 +78,8 @@ impl ValidModule {
     }
 }
 
-/// Whether the module is valid (WebAssembly Core 1.0, section 3.4). Where it isn't, the answer names the first
-/// component that breaks its rule, and hands the module back.
+/// Whether the module is valid (WebAssembly Core 1.0, section 3.4). Where it isn't, the answer
+/// names the first component that breaks its rule, and hands the module back.
 pub fn validate(alloc: Global, module: Module) -> Result<ValidModule, (Invalid, Module)>
     requires limits { MeetsLimits «module» }
     requires codes { HasCodeForEach «module» }

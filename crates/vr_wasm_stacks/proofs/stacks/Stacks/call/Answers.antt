@@ -1,11 +1,11 @@
 use Rattle.std.proofs.Common.{ℕ, ◌≡◌, ◌-◌, ◌+◌, ◌∷◌, ◌++◌, [], length, reverse, replicate, arith, ap, sym, subst, ◌∙◌}
 use Rattle.std.proofs.lemmas.Grind.{common_steps}
-use Rattle.std.proofs.lemmas.List.{length-reverse, length-append, length-replicate, reverse-append}
+use Rattle.std.proofs.lemmas.List.{length-reverse, length-append, length-replicate}
 use Rattle.vr_wasm_stacks.specs.declared.control.Control.{Control}
 use Rattle.vr_wasm_stacks.specs.declared.control.Control.TheVariants.{Call}
 use Rattle.vr_wasm_stacks.specs.Flat.{Rises, Keeps, position, calls}
 use Rattle.vr_wasm_stacks.proofs.CountLemmas.{slots_at, labels_at, frames_at}
-use Rattle.vr_wasm_stacks.proofs.LayerLemmas.{called_at}
+use Rattle.vr_wasm_stacks.proofs.LayerLemmas.{called_at, called_entries}
 use Rattle.vr_wasm_stacks.proofs.stacks.Stacks.call.Goals as goal
 
 pub push_zeros-requires : goal.push_zeros-requires
@@ -30,10 +30,7 @@ invariant_of-self c =
     let tall : c.len-frame.result ≡ length (reverse c.self.inside.controls.items) = omega (arith, length-reverse c.self.inside.controls.items) in
     let x : Control = Call c.args.results c.args.rest (length c.self.inside.values.items - c.args.params) (length c.self.inside.values.items + c.args.locals) c.self.inside.frame c.self.inside.base in
     let pushed : c.push.new.self.items ≡ c.self.inside.controls.items ++ Call c.args.results c.args.rest (c.len.result - c.args.params) c.len-height.result c.self.inside.frame c.self.inside.base ∷ [] = grind (arith, common_steps) in
-    let same : Call c.args.results c.args.rest (c.len.result - c.args.params) c.len-height.result c.self.inside.frame c.self.inside.base ≡ x =
-    ap (λ n. Call c.args.results c.args.rest (n - c.args.params) c.len-height.result c.self.inside.frame c.self.inside.base) count
-    ∙ ap (λ h. Call c.args.results c.args.rest (length c.self.inside.values.items - c.args.params) h c.self.inside.frame c.self.inside.base) long in
-    let es : reverse c.push.new.self.items ≡ x ∷ reverse c.self.inside.controls.items = ap reverse pushed ∙ reverse-append c.self.inside.controls.items (Call c.args.results c.args.rest (c.len.result - c.args.params) c.len-height.result c.self.inside.frame c.self.inside.base ∷ []) ∙ ap (λ y. y ∷ reverse c.self.inside.controls.items) same in
+    let es = called_entries c.self.inside.controls.items c.push.new.self.items c.args.results c.args.rest c.args.params c.args.locals c.self.inside.frame c.self.inside.base _ _ (length c.self.inside.values.items) count long pushed in
     record {
       rises = subst (λ y. Rises y c.push_zeros.new.values.items) (sym es) (subst (Rises (x ∷ reverse c.self.inside.controls.items)) (sym c.push_zeros.ensures.items) it.rises);
       keeps = subst (λ y. Keeps y c.len-frame.result (c.len.result - c.args.params)) (sym es) (tall, ap (λ n. n - c.args.params) count, c.self.invariant.keeps);
@@ -53,10 +50,7 @@ returns c =
     let tall : c.len-frame.result ≡ length (reverse c.self.inside.controls.items) = omega (arith, length-reverse c.self.inside.controls.items) in
     let x : Control = Call c.args.results c.args.rest (length c.self.inside.values.items - c.args.params) (length c.self.inside.values.items + c.args.locals) c.self.inside.frame c.self.inside.base in
     let pushed : c.push.new.self.items ≡ c.self.inside.controls.items ++ Call c.args.results c.args.rest (c.len.result - c.args.params) c.len-height.result c.self.inside.frame c.self.inside.base ∷ [] = grind (arith, common_steps) in
-    let same : Call c.args.results c.args.rest (c.len.result - c.args.params) c.len-height.result c.self.inside.frame c.self.inside.base ≡ x =
-    ap (λ n. Call c.args.results c.args.rest (n - c.args.params) c.len-height.result c.self.inside.frame c.self.inside.base) count
-    ∙ ap (λ h. Call c.args.results c.args.rest (length c.self.inside.values.items - c.args.params) h c.self.inside.frame c.self.inside.base) long in
-    let es : reverse c.push.new.self.items ≡ x ∷ reverse c.self.inside.controls.items = ap reverse pushed ∙ reverse-append c.self.inside.controls.items (Call c.args.results c.args.rest (c.len.result - c.args.params) c.len-height.result c.self.inside.frame c.self.inside.base ∷ []) ∙ ap (λ y. y ∷ reverse c.self.inside.controls.items) same in
+    let es = called_entries c.self.inside.controls.items c.push.new.self.items c.args.results c.args.rest c.args.params c.args.locals c.self.inside.frame c.self.inside.base _ _ (length c.self.inside.values.items) count long pushed in
     ap (λ y. position y c.push_zeros.new.values.items c.args.body.now) es
     ∙ ap (λ y. position (x ∷ reverse c.self.inside.controls.items) y c.args.body.now) c.push_zeros.ensures.items
     ∙ it.lands
