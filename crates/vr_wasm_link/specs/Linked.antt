@@ -9,7 +9,7 @@ use Rattle.vr_wasm_ast.specs.Instructions.{instructions_of}
 use Rattle.vr_wasm_num.specs.Memory.{IsPaged}
 use Rattle.vr_wasm_steps.specs.Hosts.{RepliesFit}
 use Rattle.vr_wasm_steps.specs.Rows.{Callee, own, outside, Program}
-use Rattle.vr_wasm_steps.specs.Store.{AreBytes, Store, are_of}
+use Rattle.vr_wasm_steps.specs.Store.{Store, are_of}
 use Rattle.vr_wasm_valid.specs.Context.{function_type, spaces_of}
 use Rattle.vr_wasm_valid.specs.Valid.{IsTypedFunction, IsValid}
 
@@ -43,7 +43,6 @@ pub record IsLinked {W : Type 0} (finds : List ℕ → List ℕ → FuncType →
       → IsImported finds m p.functions f
   pub owned : (f : ℕ) → f < length m.functions → IsOwn m p.functions f
   pub memory : IsPaged store.memory
-  pub bytes : AreBytes store.memory.bytes
   pub table : All (λ (entry : Option ℕ). IfSome entry (λ f. f < length p.functions)) store.table
   pub globals : IsTrue (are_of (map (λ (g : GlobalType). g.value) (spaces_of m).globals) store.globals)
   pub replies : RepliesFit finds p.reply

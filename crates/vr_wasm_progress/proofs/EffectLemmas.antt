@@ -12,12 +12,12 @@ use Rattle.vr_wasm_ast.specs.Instructions.{Instruction, unreachable, nop, block,
 use Rattle.vr_wasm_ast.specs.Opcodes.{load_of, store_of, numeric_of, numeric_operands, numeric_result}
 use Rattle.vr_wasm_num.specs.declared.trap.Trap.{Trap}
 use Rattle.vr_wasm_num.specs.Integers.{unary, binary, compare, converted, bit}
-use Rattle.vr_wasm_num.specs.Memory.{Contents, pages_of}
+use Rattle.vr_wasm_num.specs.Memory.{Contents, IsPaged, number_of, pages_of, part}
 use Rattle.vr_wasm_steps.specs.Effects.{Effect, stuck, effect, gives, computes, computed, loads, stores, grows, copies, fills, pushes, sets_local, sets_global, unary_of, binary_of, compare_of, with_memory}
 use Rattle.vr_wasm_steps.specs.Store.{Store, width, is_of}
 use Rattle.vr_wasm_valid.specs.Context.{Context}
 use Rattle.vr_wasm_valid.specs.Steps.{Takes, Step}
-use Rattle.vr_wasm_progress.specs.Typed.{Has, Fits, IsMemory, StoreFits, EffectFits, global_values}
+use Rattle.vr_wasm_progress.specs.Typed.{Has, Fits, StoreFits, EffectFits, global_values}
 use Rattle.vr_wasm_progress.proofs.CaseLemmas.{either_way, surely, where_true}
 use Rattle.vr_wasm_progress.proofs.FittingLemmas.{fits_along, fits_get, fits_set}
 use Rattle.vr_wasm_progress.proofs.MemoryLemmas.{loaded, stored_memory, copied_memory, filled_memory, grown_memory, pages_width}
@@ -56,7 +56,7 @@ each_result : {X : Type 0} (t : ValType) (result : X → Result ℕ Trap) (o : O
 each_result t result o there fits =
     subst (λ q. ResultFits t (option_map result q)) (sym there.1) (fits there.0)
 
-pub with_memory_fits : (c : Context) (m : Store) (memory : Contents) → StoreFits c.spaces m → IsMemory memory
+pub with_memory_fits : (c : Context) (m : Store) (memory : Contents) → StoreFits c.spaces m → IsPaged memory
     → StoreFits c.spaces (with_memory m memory)
 with_memory_fits c m memory fs f = record { memory = f; table = fs.table; globals = fs.globals }
 
@@ -122,7 +122,7 @@ module _ (c : Context) (m : Store) (ls : List ℕ) (after : List ValType) (fs : 
   loads_fits vs i op offset a below here e f =
       subst (λ o. EffectFits c after (loads m ls vs i offset o)) (sym here)
       (typed_fits I32 i _ f.0 (where_true (EffectFits c after) (nat_le (i + offset + 2 ^ a.exponent) (length m.memory.bytes)) _ _
-      (λ there. (fs, fl, fits_along (a.value ∷ below) after _ (sym e) (loaded op a m.memory (i + offset) here fs.memory, f.1))) tt))
+      (λ there. (fs, fl, fits_along (a.value ∷ below) after _ (sym e) (loaded op a (number_of (part m.memory.bytes (i + offset) (2 ^ a.exponent))) here, f.1))) tt))
 
   stores_fits : (vs : List ℕ) (i v op offset : ℕ) (a : MemoryAccess) → store_of op ≡ Some a
       → Has I32 i → Fits after vs → EffectFits c after (stores m ls vs i v offset (store_of op))

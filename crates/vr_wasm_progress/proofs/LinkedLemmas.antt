@@ -96,7 +96,7 @@ module _ {W : Type 0} (finds : List ℕ → List ℕ → FuncType → Option ℕ
 
   pub store_fits : StoreFits (spaces_of m) store
   store_fits = record {
-    memory = record { paged = linked.memory; bytes = linked.bytes };
+    memory = linked.memory;
     table = subst (λ n. All (λ (entry : Option ℕ). IfSome entry (λ f. f < n)) store.table) linked.count linked.table;
     globals = fits_from_are (global_values (spaces_of m).globals) store.globals linked.globals;
   }

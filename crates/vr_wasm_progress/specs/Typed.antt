@@ -10,7 +10,7 @@ use Rattle.vr_wasm_num.specs.Memory.{Contents, IsPaged}
 use Rattle.vr_wasm_steps.specs.Effects.{Effect, leaves, trapped, stuck}
 use Rattle.vr_wasm_steps.specs.Hosts.{Reply, FitsResults}
 use Rattle.vr_wasm_steps.specs.Rows.{Callee, own, outside, type_of, Program, Config, Outcome, stepped, finished, branching, returning, exited, traps_with, no_row, arity, Next, step, over, exits_with, traps, lost}
-use Rattle.vr_wasm_steps.specs.Store.{AreBytes, Store, width}
+use Rattle.vr_wasm_steps.specs.Store.{Store, width}
 use Rattle.vr_wasm_steps.specs.Terms.{Term, end, value, plain, label, frame}
 use Rattle.vr_wasm_valid.specs.Context.{Context, Spaces, function_type, inside_block, inside_function, result_list, result_of}
 use Rattle.vr_wasm_valid.specs.Parts.{StartFits}
@@ -39,18 +39,13 @@ Brings wanted vs = (below : List ValType) × Fits (wanted ++ below) vs
 abbrev pub global_values : List GlobalType → List ValType
 global_values globals = map (λ (g : GlobalType). g.value) globals
 
--- a memory of whole pages, in which each number is a byte
-pub record IsMemory (memory : Contents) : Type 0 where
-  pub paged : IsPaged memory
-  pub bytes : AreBytes memory.bytes
-
 -- what may be in a place of a table: nothing, or a function that is there
 abbrev pub NamesFunction : Spaces → Option ℕ → Type 0
 NamesFunction s entry = IfSome entry (λ f. f < length s.functions)
 
 -- the store has a memory, a table of functions, and a number of its type for each global
 pub record StoreFits (s : Spaces) (m : Store) : Type 0 where
-  pub memory : IsMemory m.memory
+  pub memory : IsPaged m.memory
   pub table : All (NamesFunction s) m.table
   pub globals : Fits (global_values s.globals) m.globals
 

@@ -1,5 +1,6 @@
 pub mod AnswerLemmas
 pub mod CallLemmas
+pub mod CallableLemmas
 pub mod ControlLemmas
 pub mod CostLemmas
 pub mod FunctionLemmas

@@ -1,7 +1,8 @@
 -- A machine as a program and a configuration, and what a step of it is.
-use Rattle.std.specs.Prelude.{ℕ, ◌≡◌, ◌≢◌, ◌≤◌, ◌<◌, List, ◌∷◌, ◌++◌, [], Option, option_to_list, map}
+use Rattle.std.specs.Prelude.{ℕ, ◌≡◌, ◌≢◌, ◌≤◌, List, ◌∷◌, ◌++◌, [], Option, option_to_list, map}
 use Rattle.vr_wasm_ast.specs.declared.instr.Instr.{Instr}
 use Rattle.vr_wasm_link.specs.Functions.{function_of}
+use Rattle.vr_wasm_steps.specs.Hosts.{Rose}
 use Rattle.vr_wasm_steps.specs.Rows.{Program, Config, Next, step, over, exits_with, traps, lost, next}
 use Rattle.vr_wasm_steps.specs.Runs.{NeverLost}
 use Rattle.vr_wasm_stacks.specs.Positions.{IsRooted}
@@ -65,7 +66,7 @@ pub record Steps {H W : Type 0} (world : H → W) (stops : H → ℕ) (reply : R
       (config world m')
   pub program : program_of reply m' ≡ program_of reply m
   pub counted : stops m.host ≤ stops m'.host
-  pub stopped : progress ≡ Stopped → stops m.host < stops m'.host
+  pub stopped : progress ≡ Stopped → Rose (stops m.host) (stops m'.host)
 
 -- each function can be called, and the program is never lost
 pub record IsFit {H W : Type 0} (finds : Finds) (world : H → W) (reply : Replies W)

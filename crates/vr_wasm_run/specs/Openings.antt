@@ -1,19 +1,19 @@
--- A linked program before its first step.
-use Rattle.std.specs.Prelude.{map}
-use Rattle.vr_wasm_link.specs.Functions.{function_of}
-use Rattle.vr_wasm_steps.specs.Rows.{Program}
-use Rattle.vr_wasm_steps.specs.Store.{Store}
+-- A linked module before its first step.
+use Rattle.vr_wasm_link.specs.Opening.{Finds}
+use Rattle.vr_wasm_link.specs.Plans.{Plan, opening_in}
+use Rattle.vr_wasm_steps.specs.Rows.{Config, Program}
+use Rattle.vr_wasm_steps.specs.Runs.{start}
 use Rattle.vr_wasm_run.specs.Calls.{Replies}
-use Rattle.vr_wasm_run.specs.declared.machine.Opening.{Opening}
 
--- its functions, with what a host replies
-abbrev pub opened_program : {W : Type 0} → Replies W → Opening → Program W
-opened_program reply o = record {
-  types = o.types.now;
-  functions = map function_of o.functions.items;
+-- its types and functions, with what a host replies
+abbrev pub linked_program : {W : Type 0} → Replies W → Finds → Plan → Program W
+linked_program reply finds plan = record {
+  types = plan.tree.types;
+  functions = (opening_in finds plan).functions;
   reply = reply;
 }
 
--- its memory, its table and its globals
-abbrev pub opened_store : Opening → Store
-opened_store o = record { memory = o.memory; table = o.table.items; globals = o.globals.items }
+-- its store, in a world, and the calls of its start function, where it has one, and of the other
+abbrev pub linked_start : {W : Type 0} → Finds → Plan → W → Config W
+linked_start finds plan w =
+    let o = opening_in finds plan in start o.store w o.start o.main

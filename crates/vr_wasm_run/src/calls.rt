@@ -2,6 +2,7 @@
 
 ghost use Rattle.std.specs.Prelude.{◌≡◌, ◌+◌, ◌≤◌, ◌<◌, ℕ, List, [], IsTrue, length, None, Some};
 ghost use Rattle.vr_wasm_link.specs.Functions.{function_of};
+ghost use Rattle.vr_wasm_steps.specs.Hosts.{Rose};
 ghost use Rattle.vr_wasm_steps.specs.Store.{are_of};
 ghost use Rattle.vr_wasm_steps.specs.Terms.{slots};
 ghost use Rattle.vr_wasm_steps.specs.declared.limits.TheConstants.{MAX_SLOTS};
@@ -104,7 +105,7 @@ fn ask<'m, H: Host>(
         (H.reply (H.world host.old) which (arguments sort.now stacks.old) memory.old)
         (answered_at sort.now stacks.old rest.now) result stacks.new memory.new (H.world host.new) }
     ensures counted { H.stops host.old ≤ H.stops host.new }
-    ensures stopped { result ≡ Progress.Stopped → H.stops host.old < H.stops host.new }
+    ensures stopped { result ≡ Progress.Stopped → Rose (H.stops host.old) (H.stops host.new) }
 {
     let params = sort.params.len();
     match host.call(which, stacks.last(params), memory) {
@@ -141,7 +142,7 @@ fn call_host<'m, H: Host>(
         (H.reply (H.world host.old) which (arguments sort.now stacks.old) memory.old)
         (answered_at sort.now stacks.old rest.now) result stacks.new memory.new (H.world host.new) }
     ensures counted { H.stops host.old ≤ H.stops host.new }
-    ensures stopped { result ≡ Progress.Stopped → H.stops host.old < H.stops host.new }
+    ensures stopped { result ≡ Progress.Stopped → Rose (H.stops host.old) (H.stops host.new) }
 {
     match passed_outside(stacks, sort) {
         Some(kind) => Progress::Trapped(kind),
@@ -164,7 +165,7 @@ pub fn invoke<'m, H: Host>(
     ensures others { state.new
         ≡ record state.old { stacks = state.new.stacks; memory = state.new.memory } }
     ensures counted { H.stops host.old ≤ H.stops host.new }
-    ensures stopped { result ≡ Progress.Stopped → H.stops host.old < H.stops host.new }
+    ensures stopped { result ≡ Progress.Stopped → Rose (H.stops host.old) (H.stops host.new) }
 {
     match callee {
         Callee::Own { sort, locals, body } => {

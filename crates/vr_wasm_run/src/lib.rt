@@ -7,4 +7,5 @@ mod progress;
 mod running;
 mod state;
 
-pub use machine::{End, Machine, Opening};
+pub use machine::{End, Machine};
+pub use vr_wasm_link::{LinkFault, LinkKind, Linked, link};

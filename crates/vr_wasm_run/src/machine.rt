@@ -1,11 +1,13 @@
 //! Whole runs.
 
 ghost use Rattle.std.specs.Prelude.{◌≡◌, ◌≤◌, ◌<◌, IfOk, IfErr, map};
+ghost use Rattle.vr_wasm_steps.specs.Hosts.{Rose};
 ghost use Rattle.vr_wasm_steps.specs.Runs.{NeverLost, start};
 ghost use Rattle.vr_wasm_run.specs.Answers.{IsExact, Tells};
 ghost use Rattle.vr_wasm_link.specs.Functions.{function_of};
 ghost use Rattle.vr_wasm_run.specs.Calls.{AreCallable};
-ghost use Rattle.vr_wasm_run.specs.Openings.{opened_program, opened_store};
+ghost use Rattle.vr_wasm_link.specs.Opened.{program_in, store_in};
+ghost use Rattle.vr_wasm_run.specs.Openings.{linked_program, linked_start};
 ghost use Rattle.vr_wasm_run.specs.Machines.{config, program_of};
 
 use crate::progress::Progress;
@@ -13,9 +15,9 @@ use crate::running::Running;
 use crate::state::State;
 use std::alloc::Global;
 use std::marker::Model;
-use vr_wasm_ast::FuncType;
-use vr_wasm_link::Callee;
-use vr_wasm_num::{Memory, NoMemory};
+use vr_wasm_link::{Linked, Opened};
+use vr_wasm_num::NoMemory;
+use vr_wasm_progress::programs_never_lost;
 use vr_wasm_stacks::Stacks;
 use vr_wasm_steps::Host;
 
@@ -29,19 +31,6 @@ pub enum End {
     OutOfFuel,
     /// The host ran out of memory.
     HostStopped,
-}
-
-/// A linked program before its first step.
-pub struct Opening<'m> {
-    pub types: &'m [FuncType],
-    pub functions: Vec<Callee<'m>>,
-    pub memory: Memory,
-    pub table: Vec<Option<u32>>,
-    pub globals: Vec<u64>,
-    /// The module's start function, where it has one.
-    pub first: Option<u32>,
-    /// The function that is called after it.
-    pub main: u32,
 }
 
 /// A program that is fit to run, and its host.
@@ -65,33 +54,48 @@ impl<'m, H: Host> Model for Machine<'m, H> {
 }
 
 impl<'m, H: Host> Machine<'m, H> {
-    /// A machine before the first step. All that a run may need is reserved here. Without memory
-    /// the host comes back.
-    pub fn opened(
+    /// A machine for a linked module, before the first step. All that a run may need is reserved
+    /// here: the memory's most pages, and the stacks. Without memory the host comes back.
+    pub fn new(
         alloc: Global,
-        opening: Opening<'m>,
+        linked: Linked<'m, H>,
         host: H,
     ) -> Result<Machine<'m, H>, (NoMemory, H)>
-        requires callable { AreCallable H.finds (map function_of opening.functions.items) }
-        requires live { NeverLost (opened_program H.reply opening)
-            (start (opened_store opening) (H.world host) opening.first opening.main) }
         ensures program { IfOk result (λ m.
-            program_of H.reply m ≡ opened_program H.reply opening.entry) }
+            program_of H.reply m ≡ linked_program H.reply H.finds linked.entry) }
         ensures begins { IfOk result (λ m. config H.world m
-            ≡ start (opened_store opening.entry) (H.world host)
-            opening.entry.first opening.entry.main) }
+            ≡ linked_start H.finds linked.entry (H.world host)) }
         ensures host { IfOk result (λ m. m.host ≡ host) }
         ensures returned { IfErr result (λ e. e.1 ≡ host) }
     {
-        let Opening {
+        programs_never_lost::<H>();
+        match linked.open(alloc) {
+            Ok(opened) => Machine::opened(alloc, opened, host),
+            Err(refused) => Err((refused, host)),
+        }
+    }
+
+    fn opened(alloc: Global, opened: Opened<'m>, host: H) -> Result<Machine<'m, H>, (NoMemory, H)>
+        requires callable { AreCallable H.finds (map function_of opened.functions.items) }
+        requires live { NeverLost (program_in opened H.reply)
+            (start (store_in opened) (H.world host) opened.start opened.main) }
+        ensures program { IfOk result (λ m.
+            program_of H.reply m ≡ program_in opened.entry H.reply) }
+        ensures begins { IfOk result (λ m. config H.world m
+            ≡ start (store_in opened.entry) (H.world host)
+            opened.entry.start opened.entry.main) }
+        ensures host { IfOk result (λ m. m.host ≡ host) }
+        ensures returned { IfErr result (λ e. e.1 ≡ host) }
+    {
+        let Opened {
             types,
             functions,
             memory,
             table,
             globals,
-            first,
+            start,
             main,
-        } = opening;
+        } = opened;
         match Stacks::new(alloc) {
             Ok(stacks) => {
                 let state = State {
@@ -105,7 +109,7 @@ impl<'m, H: Host> Machine<'m, H> {
                         state,
                         types,
                         functions,
-                        first,
+                        first: start,
                         main: Some(main),
                         host,
                     },
@@ -122,7 +126,8 @@ impl<'m, H: Host> Machine<'m, H> {
         ensures exact { IsExact (program_of H.reply self.entry) fuel (config H.world self.entry)
             result.0 (H.world result.1) }
         ensures counted { H.stops self.entry.host ≤ H.stops result.1 }
-        ensures stopped { result.0 ≡ End.HostStopped → H.stops self.entry.host < H.stops result.1 }
+        ensures stopped { result.0 ≡ End.HostStopped
+            → Rose (H.stops self.entry.host) (H.stops result.1) }
     {
         let Machine { running } = self;
         go_on(running, fuel)
@@ -137,7 +142,7 @@ fn go_on<'m, H: Host>(running: Running<'m, H>, fuel: u64) -> (End, H)
         result.0 (H.world result.1) }
     ensures counted { H.stops running.entry.host ≤ H.stops result.1 }
     ensures stopped { result.0 ≡ End.HostStopped
-        → H.stops running.entry.host < H.stops result.1 }
+        → Rose (H.stops running.entry.host) (H.stops result.1) }
 {
     let mut running = running;
     let mut left = fuel;

@@ -65,9 +65,12 @@ computed m ls vs op (Some f) = computes m ls vs op f
 
 -- ---- memory
 
--- a number that was read from so many bytes, in the width of its type
+-- a number that was read from so many bytes, in the width of its type; so many bytes spell no other number than one
+-- of their width
 abbrev pub extended : MemoryAccess → ℕ → ℕ
-extended a v = if a.signed then unsigned (width a.value) (signed (8 * 2 ^ a.exponent) v) else v
+extended a v =
+    if a.signed then unsigned (width a.value) (signed (8 * 2 ^ a.exponent) v)
+    else v % 2 ^ (8 * 2 ^ a.exponent)
 
 -- so many bytes from a place on are there, or the program traps
 abbrev pub if_there : Store → ℕ → ℕ → Effect → Effect

@@ -5,7 +5,7 @@ use Rattle.vr_wasm_ast.specs.declared.tree.ValType.{ValType}
 use Rattle.vr_wasm_num.specs.Memory.{Contents}
 use Rattle.vr_wasm_steps.specs.declared.host.HostAnswer.{HostAnswer}
 use Rattle.vr_wasm_steps.specs.declared.host.HostAnswer.TheVariants.{Value, Nothing, Exit, NoMemory}
-use Rattle.vr_wasm_steps.specs.Store.{AreBytes, is_of, are_of}
+use Rattle.vr_wasm_steps.specs.Store.{is_of, are_of}
 
 -- a value, no value, or the end of the program with a code; and the memory and the world after it
 pub data Reply (W : Type 0) : Type 0 where
@@ -29,11 +29,10 @@ pub record StopsClean {W : Type 0} (old new : Contents) (before after : W) : Typ
   pub memory : new ≡ old
   pub world : after ≡ before
 
--- as many bytes, and as many pages at most; and where all of them were bytes, they still are
+-- as many bytes and as many pages at most
 pub record SameSize (old new : Contents) : Type 0 where
   pub size : length new.bytes ≡ length old.bytes
   pub most : new.most ≡ old.most
-  pub bytes : AreBytes old.bytes → AreBytes new.bytes
 
 -- a reply to a call of a function with these results: a value of the type, or none where there is none
 abbrev pub FitsResults : {W : Type 0} → List ValType → Contents → Reply W → Type 0
