@@ -46,7 +46,8 @@ pub record Stands {H W : Type 0} (world : H → W) (reply : Replies W) (m : Runn
   pub live : next (program_of reply m) (config world m) ≢ lost
 
 -- the machine is at the end of a block or a function, and some row applies
-pub record StandsAtEnd {H W : Type 0} (world : H → W) (reply : Replies W) (m : Running H) : Type 0 where
+pub record StandsAtEnd {H W : Type 0} (world : H → W) (reply : Replies W)
+    (m : Running H) : Type 0 where
   pub rooted : IsRooted m.state.stacks.layers m.state.stacks.locals
   pub code : m.state.stacks.code ≡ []
   pub inside : m.state.stacks.layers ≢ []

@@ -32,6 +32,7 @@ pub enum End {
 }
 
 /// A linked program before its first step.
+#[derive(Drop)]
 pub struct Opening<'m> {
     pub types: &'m [FuncType],
     pub functions: Vec<Callee<'m>>,
@@ -45,6 +46,7 @@ pub struct Opening<'m> {
 }
 
 /// A program that is fit to run, and its host.
+#[derive(Drop)]
 pub struct Machine<'m, H: Host> {
     running: Running<'m, H>,
 }
