@@ -3,6 +3,7 @@ pub mod CallLemmas
 pub mod ControlLemmas
 pub mod CostLemmas
 pub mod FunctionLemmas
+pub mod LinkedLemmas
 pub mod OperandLemmas
 pub mod OutsideLemmas
 pub mod PlainLemmas
