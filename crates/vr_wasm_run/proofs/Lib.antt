@@ -1,9 +1,9 @@
 pub mod AnswerLemmas
 pub mod CallLemmas
-pub mod CallableLemmas
 pub mod ControlLemmas
 pub mod CostLemmas
 pub mod FunctionLemmas
+pub mod LinkedLemmas
 pub mod OperandLemmas
 pub mod OutsideLemmas
 pub mod PlainLemmas

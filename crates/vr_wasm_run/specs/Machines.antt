@@ -13,6 +13,7 @@ use Rattle.vr_wasm_run.specs.declared.running.Running.{Running}
 use Rattle.vr_wasm_run.specs.declared.progress.Progress.{Progress}
 use Rattle.vr_wasm_run.specs.declared.progress.Progress.TheVariants.{Went, Over, Exited, Trapped, Stopped}
 
+-- its types and its functions, with what a host replies
 abbrev pub program_of : {H W : Type 0} → Replies W → Running H → Program W
 program_of reply m = record {
   types = m.types.now;
@@ -20,13 +21,15 @@ program_of reply m = record {
   reply = reply;
 }
 
--- the functions that are still to be called from outside
+-- the functions that are still to be called from outside, where there are any
 abbrev pub waiting : Option ℕ → Option ℕ → List ℕ
 waiting first main = option_to_list first ++ option_to_list main
 
+-- those of the machine
 abbrev pub pending : {H : Type 0} → Running H → List ℕ
 pending m = waiting m.first m.main
 
+-- with the world of its host
 abbrev pub config : {H W : Type 0} → (H → W) → Running H → Config W
 config world m = config_of m.state (world m.host) (pending m)
 
@@ -47,7 +50,8 @@ pub record Stands {H W : Type 0} (world : H → W) (reply : Replies W) (m : Runn
   pub live : next (program_of reply m) (config world m) ≢ lost
 
 -- the machine is at the end of a block or a function, and some row applies
-pub record StandsAtEnd {H W : Type 0} (world : H → W) (reply : Replies W) (m : Running H) : Type 0 where
+pub record StandsAtEnd {H W : Type 0} (world : H → W) (reply : Replies W)
+    (m : Running H) : Type 0 where
   pub rooted : IsRooted m.state.stacks.layers m.state.stacks.locals
   pub code : m.state.stacks.code ≡ []
   pub inside : m.state.stacks.layers ≢ []

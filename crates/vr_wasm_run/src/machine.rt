@@ -34,6 +34,7 @@ pub enum End {
 }
 
 /// A program that is fit to run, and its host.
+#[derive(Drop)]
 pub struct Machine<'m, H: Host> {
     running: Running<'m, H>,
 }

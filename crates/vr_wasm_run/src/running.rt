@@ -23,6 +23,7 @@ use vr_wasm_num::{
 use vr_wasm_steps::Host;
 
 /// A running program, and its host.
+#[derive(Drop)]
 pub struct Running<'m, H> {
     pub state: State<'m>,
     pub types: &'m [FuncType],
