@@ -11,7 +11,8 @@ use Rattle.vr_wasi_abi.specs.declared.fault.AbiFault.{AbiFault}
 use Rattle.vr_wasi_abi.specs.declared.fault.AbiFault.TheVariants.{Inval, Fault}
 use Rattle.vr_wasi_abi.specs.declared.iovecs.Iovec.{Iovec}
 use Rattle.vr_wasi_abi.specs.declared.iovecs.TheConstants.{MAX_IOVECS}
-use Rattle.vr_wasi_abi.specs.Iovecs.{is_within, vector, vectors, has_buffer, are_there, reading, Gives}
+use Rattle.vr_wasm_num.specs.Memory.{is_within}
+use Rattle.vr_wasi_abi.specs.Iovecs.{vector, vectors, has_buffer, are_there, reading, Gives}
 
 pub vectors_none : (bytes : List ℕ) (at : ℕ) → vectors bytes at 0 ≡ []
 unfolding vectors

@@ -1,15 +1,11 @@
 -- Vectors of buffers in linear memory (WASI preview 1, iovec and ciovec).
-use Rattle.std.specs.Prelude.{ℕ, ◌+◌, ◌*◌, ◌≡◌, ◌==◌, ◌&&◌, List, length, map, Bool, true, if◌then◌else◌, nat_lt, nat_le, Result, Ok, Err}
+use Rattle.std.specs.Prelude.{ℕ, ◌+◌, ◌*◌, ◌≡◌, ◌&&◌, List, map, Bool, if◌then◌else◌, nat_lt, Result, Ok, Err}
 use Rattle.std.specs.List.{list_all, range_with_len}
-use Rattle.vr_wasm_num.specs.Memory.{number_of, part}
+use Rattle.vr_wasm_num.specs.Memory.{is_within, number_of, part}
 use Rattle.vr_wasi_abi.specs.declared.fault.AbiFault.{AbiFault}
 use Rattle.vr_wasi_abi.specs.declared.fault.AbiFault.TheVariants.{Inval, Fault, OutOfMemory}
 use Rattle.vr_wasi_abi.specs.declared.iovecs.Iovec.{Iovec}
 use Rattle.vr_wasi_abi.specs.declared.iovecs.TheConstants.{MAX_IOVECS, IOVEC_SIZE}
-
--- so many bytes from a place on lie within the memory; no bytes do, wherever they begin
-abbrev pub is_within : List ℕ → ℕ → ℕ → Bool
-is_within bytes at len = if len == 0 then true else nat_le (at + len) (length bytes)
 
 -- one vector: a pointer at 0 and a length at 4
 abbrev pub vector : List ℕ → ℕ → Iovec

@@ -1,7 +1,7 @@
 //! The vectors of buffers that a program names to read into and to write from.
 
 ghost use Rattle.std.specs.Prelude.{◌≡◌, ◌<◌, ◌^◌, Err};
-ghost use Rattle.vr_wasi_abi.specs.Iovecs.{is_within, Gives, reading, read_one};
+ghost use Rattle.vr_wasi_abi.specs.Iovecs.{Gives, reading, read_one};
 
 use crate::fault::AbiFault;
 use std::alloc::Global;
@@ -76,18 +76,11 @@ fn read_iovec(memory: &Memory, at: u64) -> Result<Iovec, AbiFault>
     let (Some(pointer), Some(length)) = (memory.load(at, 4), memory.load(at + 4, 4)) else {
         return Err(AbiFault::Fault);
     };
-    if !is_within(memory, pointer, length) {
+    if memory.view(pointer, length).is_none() {
         return Err(AbiFault::Fault);
     }
     Ok(Iovec {
         pointer: pointer as u32,
         length: length as u32,
     })
-}
-
-/// Whether so many bytes from a place on lie within the memory. No bytes do, wherever they begin.
-pub fn is_within(memory: &Memory, at: u64, len: u64) -> bool
-    ensures { result ≡ is_within memory.now.bytes at len }
-{
-    len == 0 || memory.view(at, len).is_some()
 }

@@ -1,6 +1,6 @@
 -- Linear memory: a list of bytes (WebAssembly Core 1.0, sections 4.2.8
 -- and 4.4.4, and copy and fill).
-use Rattle.std.specs.Prelude.{ℕ, zero, suc, ◌+◌, ◌*◌, ◌/◌, ◌%◌, ◌≡◌, ◌≤◌, ◌⊎◌, Bool, ◌||◌, ◌==◌, nat_le, List, [], ◌∷◌, ◌++◌, length, take, drop, replicate}
+use Rattle.std.specs.Prelude.{ℕ, zero, suc, ◌+◌, ◌*◌, ◌/◌, ◌%◌, ◌≡◌, ◌≤◌, ◌⊎◌, Bool, true, ◌==◌, if◌then◌else◌, nat_le, List, [], ◌∷◌, ◌++◌, length, take, drop, replicate}
 use Rattle.vr_wasm_num.specs.declared.memory.TheConstants.{PAGE_SIZE}
 
 -- the bytes, and how many pages of them there may be
@@ -38,8 +38,8 @@ bytes_of zero number = []
 bytes_of (suc width) number = number % 256 ∷ bytes_of width (number / 256)
 
 -- whether so many bytes from a place on are there; of none it is true wherever they begin
-abbrev pub is_within : Contents → ℕ → ℕ → Bool
-is_within m at len = (len == 0) || nat_le (at + len) (length m.bytes)
+abbrev pub is_within : List ℕ → ℕ → ℕ → Bool
+is_within bytes at len = if len == 0 then true else nat_le (at + len) (length bytes)
 
 -- so many bytes from a place on
 abbrev pub part : List ℕ → ℕ → ℕ → List ℕ

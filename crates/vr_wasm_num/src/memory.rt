@@ -80,7 +80,7 @@ impl Memory {
     /// So many bytes from a place on, or `None` where one of them lies past the end. No bytes are
     /// there wherever they begin.
     pub fn view(&self, at: u64, len: u64) -> Option<&[u8]>
-        ensures fits { is_some result ≡ is_within self.now at len }
+        ensures fits { is_some result ≡ is_within self.now.bytes at len }
         ensures bytes { IfSome result (λ bytes. bytes.now ≡ part self.now.bytes at len) }
     {
         if len == 0 {
@@ -112,7 +112,7 @@ impl Memory {
     /// Writes bytes from a place on. Where one of them would lie past the end, nothing is written.
     /// To write none succeeds wherever they would begin.
     pub fn write(&mut self, at: u64, bytes: &[u8]) -> bool
-        ensures fits { result ≡ is_within self.old at (length bytes.now) }
+        ensures fits { result ≡ is_within self.old.bytes at (length bytes.now) }
         ensures written { self.new
             ≡ (if result then with_piece self.old at bytes.now else self.old) }
     {

@@ -1,7 +1,8 @@
 use Rattle.std.proofs.Common.{◌≡◌, ◌+◌, ◌*◌, ◌++◌, Bool, [], ◌∷◌, List, ℕ, sym, ap, ◌∙◌, true, false, Err, arith}
 use Rattle.std.specs.Prelude.{◌&&◌}
 use Rattle.vr_wasi_abi.specs.declared.fault.AbiFault.TheVariants.{Fault}
-use Rattle.vr_wasi_abi.specs.Iovecs.{is_within, vector, vectors, has_buffer, reading, read_one}
+use Rattle.vr_wasm_num.specs.Memory.{is_within}
+use Rattle.vr_wasi_abi.specs.Iovecs.{vector, vectors, has_buffer, reading, read_one}
 use Rattle.vr_wasi_abi.proofs.VectorLemmas.{vectors_none, vectors_more, there_none, there_more, one_fault, one_ok, reading_fault, handed_on}
 use Rattle.vr_wasi_abi.proofs.iovecs.read_iovecs.Goals as goal
 
