@@ -3,12 +3,12 @@ use Rattle.std.proofs.Common.{inl, inr, ◌≡◌, ℕ, zero, suc, ◌<◌, ◌�
 use Rattle.std.specs.List.{HoldsAt, AllWithin}
 use Rattle.std.specs.List.Sorted.{IsNonDecreasingBy, IsPartitionPoint, IsSearchInRange, IsBinarySearchResult}
 use Rattle.std.specs.declared.cmp.Ordering.TheVariants.{Less, Equal, Greater}
-use Rattle.std.specs.Ordering.{is_eq, is_lt, ordering_reverse, ordering_index, eq_by_cmp}
+use Rattle.std.specs.Ordering.{is_eq, is_lt, ordering_reverse, ordering_index}
 use Rattle.std.proofs.lemmas.Bool.{cases_lt}
 use Rattle.std.specs.Cmp.{IsTotalOrder, tied_itself}
 use Rattle.std.specs.Cmp.Lexicographic.{nat_list_cmp_total}
 use Rattle.std.specs.FinMap.{find, put, IsAntisymmetric, slice_cmp-IsAntisymmetric, nat_cmp-IsAntisymmetric}
-use Rattle.std.specs.FinMap.Entries.{where_key, below_all, by_order}
+use Rattle.std.specs.FinMap.Entries.{below_all, by_order}
 use Rattle.vr_files.specs.FileMaps.{path_cmp}
 use Rattle.vr_files.specs.Entries.{AreSorted, AreBelow, AreAbove, IsAt, IsGap, without}
 

@@ -1,6 +1,6 @@
 -- The bytes of lists of pages.
-use Rattle.std.proofs.Common.{Bool, true, false, ◌&&◌, ◌≡◌, ◌⊎◌, inl, inr, ℕ, ◌+◌, ◌-◌, ◌*◌, ◌≤◌, ◌<◌, min, List, [], ◌∷◌, ◌++◌, length, take, drop, get_or, set, replicate, refl, sym, ap, subst, ◌∙◌, arith, append_assoc, length-append}
-use Rattle.std.proofs.lemmas.List.{take_at, drop_at, length-take-le, length-drop, take-append-drop, take-append-le, drop-append-le, drop-drop, take_more_set, append-nil, take_all, drop_more, length-replicate, replicate-append-replicate}
+use Rattle.std.proofs.Common.{Bool, true, false, ◌&&◌, ◌≡◌, ◌⊎◌, inl, inr, ℕ, suc, ◌+◌, ◌-◌, ◌*◌, ◌≤◌, ◌<◌, min, List, [], ◌∷◌, ◌++◌, length, take, drop, get_or, set, replicate, refl, sym, ap, subst, ◌∙◌, arith, append_assoc, length-append}
+use Rattle.std.proofs.lemmas.List.{take_at, drop_at, length-take-le, length-drop, take-append-drop, take-append-le, drop-append-le, drop-drop, take_more_set, append-nil, take_all, drop_more, set_split, set-get_or, length-set, length-replicate, replicate-append-replicate}
 use Rattle.std.proofs.Math.Nat.{mul-zero}
 use Rattle.std.proofs.Math.Seq.{take-add}
 use Rattle.std.specs.Int.{div_ceil}
@@ -145,6 +145,28 @@ overwrites old long middle others new at first last from piece full adds end ord
           ∙ overwritten-middle at from (bytes_of A) (bytes_of middle) (bytes_of C) piece
           (ap (λ n. n + from) (length-bytes_of A A_full ∙ ap (λ n. PAGE * n) A_len) ∙ sym place) (subst (λ n. from + length piece ≤ n) (sym (length-bytes_of middle M_full ∙ ap (λ n. PAGE * n) M_len)) fits)
           ∙ ap (λ x. overwritten x at piece) (sym (ap (λ x. bytes_of A ++ x) (bytes_of-append middle C)) ∙ sym (bytes_of-append A (middle ++ C)) ∙ ap bytes_of (sym split) ∙ all);
+    }
+
+-- the pages with another one in the place of a page, over which the piece is written
+pub overwrites_in_page : (old : PageList) (k from at : ℕ) (page new : Arc Page Global) (piece : List ℕ) → AreFull old → k < length old → page ≡ get_or old k page
+    → at ≡ PAGE * k + from → from + length piece ≤ PAGE → IsFull new → new.value.bytes ≡ overwritten page.value.bytes from piece → Overwrites old (set old k new) at piece
+overwrites_in_page old k from at page new piece full h here place fits whole bytes =
+    let A = take k old in
+    let C = drop (suc k) old in
+    let split : old ≡ A ++ page ∷ C = sym (ap (λ p. set old k p) here ∙ set-get_or old k page) ∙ set_split old k page h in
+    let new_is : set old k new ≡ A ++ new ∷ C = set_split old k new h in
+    let A_full : AreFull A = all_taken IsFull k old full in
+    let C_full : AreFull C = all_dropped IsFull (suc k) old full in
+    let A_len : length A ≡ k = length-take-le k old (omega arith) in
+    let none : 0 ≡ lacking old (div_ceil (at + length piece) PAGE) = omega arith in
+    record {
+      full = subst AreFull (sym new_is) (all_joined IsFull A (new ∷ C) A_full (whole, C_full));
+      counted = omega (arith, length-set old k new);
+      bytes =
+          ap bytes_of new_is ∙ bytes_of-append A (new ∷ C) ∙ ap (λ x. bytes_of A ++ (x ++ bytes_of C)) bytes
+          ∙ overwritten-middle at from (bytes_of A) page.value.bytes (bytes_of C) piece (ap (λ n. n + from) (length-bytes_of A A_full ∙ ap (λ n. PAGE * n) A_len) ∙ sym place)
+          (subst (λ n. from + length piece ≤ n) (sym (page_full old k page h here full)) fits)
+          ∙ ap (λ x. overwritten x at piece) (sym (bytes_of-append A (page ∷ C)) ∙ ap bytes_of (sym split) ∙ sym (append-nil (bytes_of old)) ∙ ap (λ n. bytes_of old ++ replicate n 0) none);
     }
 
 -- pages that are cut where one ends

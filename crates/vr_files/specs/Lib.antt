@@ -4,3 +4,4 @@ pub mod FileMaps
 pub mod Entries
 pub mod Changes
 pub mod Overlays
+pub mod Kept

@@ -1,9 +1,9 @@
 //! Vectors of paths with values, in the order of the paths and searched by halving.
-ghost use Rattle.std.specs.Prelude.{◌≡◌, ◌+◌, ◌<◌, ◌≤◌, is_some, vec_len, vec_capacity, IsOk, IfOk, IfErr, OnOk, OnErr};
+ghost use Rattle.std.specs.Prelude.{◌≡◌, ◌+◌, ◌<◌, ◌≤◌, vec_len, vec_capacity, IsOk, IfOk, IfErr, OnOk, OnErr};
 ghost use Rattle.std.specs.Option.{option_copied};
 ghost use Rattle.std.specs.FinMap.{find, put as put_lem};
 ghost use Rattle.vr_files.specs.FileMaps.{path_cmp};
-ghost use Rattle.vr_files.specs.Entries.{AreSorted, IsAt, IsGap, without};
+ghost use Rattle.vr_files.specs.Entries.{AreSorted, IsAt, IsGap};
 
 use vr_base::{NoMemory, Path};
 
@@ -55,22 +55,5 @@ pub(crate) fn put<V: Drop>(
             Ok(())
         }
         Err(place) => Ok(entries.insert(place, (path, value))?),
-    }
-}
-
-/// Takes a path out, and answers whether it was there.
-pub(crate) fn remove<V: Drop>(entries: &mut Vec<(Path, V)>, path: &Path) -> bool
-    requires { AreSorted entries.old.items }
-    ensures there { result ≡ is_some (find path_cmp path.now entries.old.items) }
-    ensures entries { entries.new.items ≡ without path.now entries.old.items }
-    ensures len { vec_len entries.new ≤ vec_len entries.old }
-    ensures capacity { vec_capacity entries.new ≡ vec_capacity entries.old }
-{
-    match place_of(entries, path) {
-        Ok(place) => {
-            entries.remove(place);
-            true
-        }
-        Err(_) => false,
     }
 }

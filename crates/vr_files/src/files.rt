@@ -7,8 +7,8 @@ ghost use Rattle.vr_files.specs.FileMaps.{no_files, bytes_at, stored};
 
 use crate::body::FileBody;
 use crate::changes::Changes;
-use crate::entries;
 use crate::faults::FileFault;
+use crate::kept::{self, Entry, Room};
 use std::alloc::Global;
 use std::marker::Model;
 use vr_base::{NoMemory, Path};
@@ -16,11 +16,12 @@ use vr_base::{NoMemory, Path};
 /// Files by their paths. Contracts see the map and for how many paths more there is room.
 #[derive(Debug, Drop)]
 pub struct Files {
-    entries: Vec<(Path, FileBody)>,
+    entries: Vec<Entry>,
+    rooms: Vec<Room>,
 }
 
 impl Model for Files {
-    ghost use Rattle.std.specs.Prelude.{◌-◌, vec_len, vec_capacity};
+    ghost use Rattle.std.specs.Prelude.{◌-◌, min, vec_len, vec_capacity};
     ghost use Rattle.std.specs.FinMap.{from_sorted};
     ghost use Rattle.vr_files.specs.FileMaps.{FileTable, coded_table};
     ghost use Rattle.vr_files.specs.Entries.{AreSorted};
@@ -31,7 +32,7 @@ impl Model for Files {
 
     ghost view = { λ f. record {
       map = from_sorted f.entries.items;
-      spare = vec_capacity f.entries - vec_len f.entries;
+      spare = min (vec_capacity f.entries - vec_len f.entries) (vec_len f.rooms);
     } };
 
     ghost invariant = { λ f. AreSorted f.entries.items };
@@ -44,6 +45,7 @@ impl Files {
     {
         Files {
             entries: Vec::new(alloc),
+            rooms: Vec::new(alloc),
         }
     }
 
@@ -62,15 +64,17 @@ impl Files {
     pub fn get(&self, path: &Path) -> Option<&FileBody>
         ensures { option_copied result ≡ map.get self.now.map path.now }
     {
-        entries::get(&self.entries, path)
+        match kept::place_of(&self.entries, path) {
+            Ok(place) => Some(self.entries[place].body()),
+            Err(_) => None,
+        }
     }
 
     /// File `k`, counted from 0 in the order of the bytes of the paths. None comes where there are at most `k` files.
     pub fn entry(&self, k: usize) -> Option<(&Path, &FileBody)>
         ensures { option_map (λ e. (e.0.now, e.1.now)) result ≡ slice_get (map.entries self.now.map) k }
     {
-        let (path, body) = self.entries.get(k)?;
-        Some((path, body))
+        Some(self.entries.get(k)?.file())
     }
 
     /// Makes room for so many paths more.
@@ -79,7 +83,7 @@ impl Files {
         ensures room { OnOk result (more ≤ self.new.spare) }
     {
         self.entries.reserve(more)?;
-        Ok(())
+        kept::make_rooms(&mut self.rooms, more)
     }
 
     /// Replaces a file, or makes it. TooLarge comes where there are more than 16,777,216 bytes.
@@ -88,7 +92,7 @@ impl Files {
     {
         let alloc = *self.entries.allocator();
         let body = FileBody::from_slice(alloc, body)?;
-        entries::put(&mut self.entries, path.copy()?, body)?;
+        kept::put(&mut self.entries, Entry::new(alloc, path.copy()?, body)?)?;
         Ok(())
     }
 
@@ -98,7 +102,7 @@ impl Files {
         ensures removed { self.new.map ≡ map.remove self.old.map path.now }
         ensures spare { self.old.spare ≤ self.new.spare }
     {
-        entries::remove(&mut self.entries, path)
+        kept::remove(&mut self.entries, path)
     }
 
     /// Adds a piece at the end of a file, or makes the file of it. TooLarge comes where there would be more than
@@ -107,8 +111,9 @@ impl Files {
         ensures { let body = bytes_at self.old.map path.now ++ piece.now in
             Becomes self.old.map self.new.map result (stored self.old.map path.now body) }
     {
-        match entries::place_of(&self.entries, path) {
-            Ok(place) => self.entries[place].1.append(piece),
+        let alloc = *self.entries.allocator();
+        match kept::place_of(&self.entries, path) {
+            Ok(place) => self.entries[place].append(alloc, piece),
             Err(_) => self.put(path, piece),
         }
     }
@@ -117,26 +122,34 @@ impl Files {
     pub fn share(&self) -> Result<Files, NoMemory>
         ensures { IfOk result (λ files. files.map ≡ self.now.map) }
     {
-        let mut entries = Vec::with_capacity(*self.entries.allocator(), self.entries.len())?;
-        for (path, body) in &self.entries {
-            entries.push((path.copy()?, body.share()?))?;
+        let alloc = *self.entries.allocator();
+        let mut entries = Vec::with_capacity(alloc, self.entries.len())?;
+        for entry in &self.entries {
+            entries.push(entry.share(alloc)?)?;
         }
-        Ok(Files { entries })
+        Ok(Files {
+            entries,
+            rooms: Vec::new(alloc),
+        })
     }
 
-    /// Makes the changes, for which there is room. It takes no memory.
+    /// Makes the changes, for which there is room, so that it can't fail.
     pub fn apply(&mut self, changes: Changes)
         requires { length changes ≤ self.old.spare }
         ensures { self.new.map ≡ applied self.old.map changes }
     {
+        let alloc = *self.entries.allocator();
         for (path, body) in changes.into_vec() {
             match body {
-                Some(body) => match entries::put(&mut self.entries, path, body) {
-                    Ok(()) => {}
-                    Err(_) => unreachable!(),
-                },
+                Some(body) => {
+                    let entry = Entry::in_room(alloc, (path, body), &mut self.rooms);
+                    match kept::put(&mut self.entries, entry) {
+                        Ok(()) => {}
+                        Err(_) => unreachable!(),
+                    }
+                }
                 None => {
-                    entries::remove(&mut self.entries, &path);
+                    kept::remove(&mut self.entries, &path);
                 }
             }
         }

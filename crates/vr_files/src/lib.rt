@@ -7,6 +7,7 @@ mod edits;
 mod entries;
 mod faults;
 mod files;
+mod kept;
 mod overlay;
 mod paged;
 mod pages;

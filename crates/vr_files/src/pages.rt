@@ -1,4 +1,4 @@
-ghost use Rattle.std.specs.Prelude.{◌≡◌, ◌+◌, ◌-◌, ◌*◌, ◌^◌, ◌<◌, ◌≤◌, ◌↔◌, ◌++◌, length, take, drop, max, replicate, vec_len, IsTrue, IfOk, OnOk, OnErr};
+ghost use Rattle.std.specs.Prelude.{◌≡◌, ◌+◌, ◌-◌, ◌*◌, ◌^◌, ◌<◌, ◌≤◌, ◌↔◌, ◌++◌, length, take, drop, max, replicate, vec_len, IsTrue, IsFalse, IfOk, OnOk, OnErr};
 ghost use Rattle.std.specs.Int.{div_ceil};
 ghost use Rattle.vr_files.specs.Bodies.{overwritten};
 ghost use Rattle.vr_files.specs.PageLists.{bytes_of, AreFull, AddsZeros, Overwrites, Cuts};
@@ -105,13 +105,60 @@ fn replace(pages: &mut [Arc<Page>], first: usize, others: &mut [Arc<Page>])
     pages[first..first + others.len()].swap_with_slice(others);
 }
 
+/// Writes the piece into a page in its place, and answers whether it did: nobody else may have the page.
+fn write_in_place(page: &mut Arc<Page>, at: usize, piece: &[u8]) -> bool
+    requires { at + length piece.now ≤ PAGE }
+    ensures written { IsTrue result →
+        page.new.value.bytes ≡ overwritten page.old.value.bytes at piece.now }
+    ensures full { IsTrue result → length page.new.value.bytes ≡ PAGE }
+    ensures same { IsFalse result → page.new ≡ page.old }
+{
+    match Arc::get_mut(page) {
+        Some(page) => {
+            page.bytes[at..at + piece.len()].copy_from_slice(piece);
+            true
+        }
+        None => false,
+    }
+}
+
+/// Writes a piece that lies in one page in its place, and answers whether it did: the page is there, and nobody else
+/// has it.
+fn write_in_page(pages: &mut Vec<Arc<Page>>, at: usize, piece: &[u8]) -> bool
+    requires { AreFull pages.old.items }
+    ensures written { IsTrue result → Overwrites pages.old.items pages.new.items at piece.now }
+    ensures same { IsFalse result → pages.new.items ≡ pages.old.items }
+{
+    let place = at / PAGE;
+    let from = at % PAGE;
+    if place < pages.len() && piece.len() <= PAGE - from {
+        write_in_place(&mut pages[place], from, piece)
+    } else {
+        false
+    }
+}
+
 /// Writes the piece over the pages from a place on, with as many pages of zeros more as it takes. Where memory runs out
-/// the pages stay as they are.
+/// the pages stay as they are, so that a piece that lies in several pages is written over copies of them.
 pub(crate) fn write_pages(
     pages: &mut Vec<Arc<Page>>,
     at: usize,
     piece: &[u8],
 ) -> Result<(), AllocError>
+    requires full { AreFull pages.old.items }
+    requires fits { at + length piece.now ≤ MOST_BYTES }
+    ensures ok { OnOk result (Overwrites pages.old.items pages.new.items at piece.now) }
+    ensures err { OnErr result (pages.new.items ≡ pages.old.items) }
+{
+    if write_in_page(pages, at, piece) {
+        Ok(())
+    } else {
+        write_over_copies(pages, at, piece)
+    }
+}
+
+/// Writes the piece over copies of the pages, and over pages of zeros more.
+fn write_over_copies(pages: &mut Vec<Arc<Page>>, at: usize, piece: &[u8]) -> Result<(), AllocError>
     requires full { AreFull pages.old.items }
     requires fits { at + length piece.now ≤ MOST_BYTES }
     ensures ok { OnOk result (Overwrites pages.old.items pages.new.items at piece.now) }

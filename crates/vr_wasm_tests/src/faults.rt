@@ -5,21 +5,41 @@ use crate::programs::{
     DIVIDES, DROPS_AFTER_A_BRANCH, DROPS_NOTHING, ENDS_AT_ONCE, LOOPS, UNLINKS_AND_EXITS,
     UNLINKS_AND_STOPS, WRITES,
 };
-use std::alloc::AllocError;
-use std::process::Abort;
+use std::alloc::Global;
 use vr_wasm_decode::{DecodeKind, decode};
 
 /// The kind of the fault of bytes, and its offset; nothing for a module.
-pub fn fault_of(rt: &(impl Abort + AllocGlobal), bytes: &[u8]) -> Option<(DecodeKind, u32)> {
-    assert!(rt; bytes.len() <= 16_777_216);
-    match decode(rt.alloc(), bytes) {
+pub type Fault = Option<(DecodeKind, u32)>;
+
+/// The fault of bytes; want of memory where they are more than a module may have.
+pub fn fault_of(alloc: Global, bytes: &[u8]) -> Fault {
+    if bytes.len() > 16_777_216 {
+        return Some((DecodeKind::OutOfMemory, 0));
+    }
+    match decode(alloc, bytes) {
         Ok(_) => None,
         Err(fault) => Some((fault.kind, fault.at)),
     }
 }
 
+/// The fault of these bytes and those after them.
+fn fault_after(alloc: Global, before: &[u8], after: &[u8]) -> Option<Fault> {
+    let bytes = joined(alloc, before, after).ok()?;
+    Some(fault_of(alloc, &bytes))
+}
+
+/// The first row whose bytes have another fault after these.
+fn first_wrong(alloc: Global, before: &[u8], rows: &[(&[u8], Fault)]) -> Option<usize> {
+    for (place, (after, wanted)) in rows.iter().enumerate() {
+        if fault_after(alloc, before, after) != Some(*wanted) {
+            return Some(place);
+        }
+    }
+    None
+}
+
 /// The fault of the first module where it is cut after so many bytes.
-const CUTS: [Option<(DecodeKind, u32)>; 37] = [
+const CUTS: [Fault; 37] = [
     Some((DecodeKind::Magic, 0)),
     Some((DecodeKind::Magic, 0)),
     Some((DecodeKind::Magic, 0)),
@@ -59,19 +79,24 @@ const CUTS: [Option<(DecodeKind, u32)>; 37] = [
     None,
 ];
 
+/// The first place at which the first module is cut with another fault.
+fn first_wrong_cut(alloc: Global, whole: &[u8], rows: &[Fault]) -> Option<usize> {
+    for (cut, wanted) in rows.iter().enumerate() {
+        let bytes = whole.get(..cut).unwrap_or(whole);
+        if fault_of(alloc, bytes) != *wanted {
+            return Some(cut);
+        }
+    }
+    None
+}
+
 #[test]
 fn a_cut_module(rt: HostRuntime) {
-    for (cut, wanted) in CUTS.iter().enumerate() {
-        assert_eq!(rt;
-            fault_of(&rt, &ENDS_AT_ONCE[..cut]),
-            *wanted,
-            "cut at {cut}"
-        );
-    }
+    assert_eq!(rt; first_wrong_cut(rt.alloc(), &ENDS_AT_ONCE, &CUTS), None);
 }
 
 /// Code sections after the first sections of a module with one function, and the fault of each.
-const CODE_SECTIONS: [(&[u8], Option<(DecodeKind, u32)>); 38] = [
+const CODE_SECTIONS: [(&[u8], Fault); 38] = [
     (&[0x0a, 0x84, 0x00, 0x01, 0x02, 0x00, 0x0b], None),
     (
         &[
@@ -244,17 +269,26 @@ const CODE_SECTIONS: [(&[u8], Option<(DecodeKind, u32)>); 38] = [
     ),
 ];
 
+/// What stands before the code section of the first module.
+fn before_codes() -> &'static [u8] {
+    &ENDS_AT_ONCE[..30]
+}
+
+/// The header of a module.
+fn header() -> &'static [u8] {
+    &ENDS_AT_ONCE[..8]
+}
+
 #[test]
-fn code_sections(rt: HostRuntime) -> Result<(), AllocError> {
-    for (section, wanted) in CODE_SECTIONS {
-        let bytes = joined(rt.alloc(), &ENDS_AT_ONCE[..30], section)?;
-        assert_eq!(rt; fault_of(&rt, &bytes), wanted, "{section:?}");
-    }
-    Ok(())
+fn code_sections(rt: HostRuntime) {
+    assert_eq!(rt;
+        first_wrong(rt.alloc(), before_codes(), &CODE_SECTIONS),
+        None
+    );
 }
 
 /// The same, with the sign extensions and the instructions on a range of the memory.
-const EXTENSIONS_AND_RANGES: [(&[u8], Option<(DecodeKind, u32)>); 16] = [
+const EXTENSIONS_AND_RANGES: [(&[u8], Fault); 16] = [
     (
         &[
             0x0a, 0x09, 0x01, 0x07, 0x00, 0xc0, 0xc1, 0xc2, 0xc3, 0xc4, 0x0b,
@@ -335,16 +369,15 @@ const EXTENSIONS_AND_RANGES: [(&[u8], Option<(DecodeKind, u32)>); 16] = [
 ];
 
 #[test]
-fn extensions_and_ranges(rt: HostRuntime) -> Result<(), AllocError> {
-    for (section, wanted) in EXTENSIONS_AND_RANGES {
-        let bytes = joined(rt.alloc(), &ENDS_AT_ONCE[..30], section)?;
-        assert_eq!(rt; fault_of(&rt, &bytes), wanted, "{section:?}");
-    }
-    Ok(())
+fn extensions_and_ranges(rt: HostRuntime) {
+    assert_eq!(rt;
+        first_wrong(rt.alloc(), before_codes(), &EXTENSIONS_AND_RANGES),
+        None
+    );
 }
 
 /// Sections after the header, and the fault of each.
-const SECTIONS: [(&[u8], Option<(DecodeKind, u32)>); 48] = [
+const SECTIONS: [(&[u8], Fault); 48] = [
     (&[], None),
     (&[0x00, 0x00], Some((DecodeKind::SectionSize, 10))),
     (
@@ -489,7 +522,7 @@ const SECTIONS: [(&[u8], Option<(DecodeKind, u32)>); 48] = [
 ];
 
 /// The same, with a data count.
-const DATA_COUNTS: [(&[u8], Option<(DecodeKind, u32)>); 20] = [
+const DATA_COUNTS: [(&[u8], Fault); 20] = [
     (&[0x0c, 0x01, 0x00], None),
     (&[0x0c, 0x02, 0x80, 0x00], None),
     (&[0x0c, 0x01, 0x00, 0x0b, 0x01, 0x00], None),
@@ -563,65 +596,98 @@ const DATA_COUNTS: [(&[u8], Option<(DecodeKind, u32)>); 20] = [
 ];
 
 #[test]
-fn sections(rt: HostRuntime) -> Result<(), AllocError> {
-    for (sections, wanted) in SECTIONS {
-        let bytes = joined(rt.alloc(), &ENDS_AT_ONCE[..8], sections)?;
-        assert_eq!(rt; fault_of(&rt, &bytes), wanted, "{sections:?}");
-    }
-    for (sections, wanted) in DATA_COUNTS {
-        let bytes = joined(rt.alloc(), &ENDS_AT_ONCE[..8], sections)?;
-        assert_eq!(rt; fault_of(&rt, &bytes), wanted, "{sections:?}");
-    }
-    Ok(())
+fn sections(rt: HostRuntime) {
+    assert_eq!(rt; first_wrong(rt.alloc(), header(), &SECTIONS), None);
+    assert_eq!(rt; first_wrong(rt.alloc(), header(), &DATA_COUNTS), None);
 }
 
-/// A data count before the code section of a whole module, and one after its end.
+/// A data count, the same of two segments, and one of none.
+const ONE_SEGMENT: [u8; 3] = [0x0c, 0x01, 0x01];
+
+const TWO_SEGMENTS: [u8; 3] = [0x0c, 0x01, 0x02];
+
+const NO_SEGMENT: [u8; 3] = [0x0c, 0x01, 0x00];
+
+/// The module that writes, with a section before its code section.
+pub fn with_section(alloc: Global, section: &[u8]) -> Option<Vec<u8>> {
+    let told = joined(alloc, &WRITES[..80], section).ok()?;
+    joined(alloc, &told, &WRITES[80..]).ok()
+}
+
+fn fault_with(alloc: Global, section: &[u8]) -> Option<Fault> {
+    let bytes = with_section(alloc, section)?;
+    Some(fault_of(alloc, &bytes))
+}
+
+/// A data count before the code section of a whole module.
 #[test]
-fn a_data_count_in_a_module(rt: HostRuntime) -> Result<(), AllocError> {
-    let told = joined(rt.alloc(), &WRITES[..80], &[0x0c, 0x01, 0x01])?;
-    let told = joined(rt.alloc(), &told, &WRITES[80..])?;
-    assert_eq!(rt; fault_of(&rt, &told), None);
-    let other = joined(rt.alloc(), &WRITES[..80], &[0x0c, 0x01, 0x02])?;
-    let other = joined(rt.alloc(), &other, &WRITES[80..])?;
-    assert_eq!(rt; fault_of(&rt, &other), Some((DecodeKind::Counts, 102)));
-    let late = joined(rt.alloc(), &ENDS_AT_ONCE, &[0x0c, 0x01, 0x00])?;
-    assert_eq!(rt; fault_of(&rt, &late), Some((DecodeKind::SectionOrder, 36)));
-    Ok(())
+fn a_data_count_in_a_module(rt: HostRuntime) {
+    let other = Some((DecodeKind::Counts, 102));
+    assert_eq!(rt; fault_with(rt.alloc(), &ONE_SEGMENT), Some(None));
+    assert_eq!(rt; fault_with(rt.alloc(), &TWO_SEGMENTS), Some(other));
 }
 
-/// Each module is read; cut, or with a byte replaced, it is read or refused at an offset within it.
-fn within(rt: &(impl Abort + AllocGlobal), whole: &[u8]) -> Result<(), AllocError> {
-    assert_eq!(rt; fault_of(rt, whole), None);
+/// A data count after the end of a whole module.
+#[test]
+fn a_data_count_after_the_codes(rt: HostRuntime) {
+    let late = Some((DecodeKind::SectionOrder, 36));
+    assert_eq!(rt;
+        fault_after(rt.alloc(), &ENDS_AT_ONCE, &NO_SEGMENT),
+        Some(late)
+    );
+}
+
+/// Whole modules.
+const WHOLE: [&[u8]; 8] = [
+    &ENDS_AT_ONCE,
+    &LOOPS,
+    &WRITES,
+    &UNLINKS_AND_STOPS,
+    &UNLINKS_AND_EXITS,
+    &DIVIDES,
+    &DROPS_AFTER_A_BRANCH,
+    &DROPS_NOTHING,
+];
+
+/// Whether there is no fault, or one up to this offset.
+fn is_within(fault: Fault, end: usize) -> bool {
+    match fault {
+        Some((_, offset)) => offset as usize <= end,
+        None => true,
+    }
+}
+
+/// The fault of the bytes with another one at a place.
+fn fault_with_byte(alloc: Global, whole: &[u8], at: usize, byte: u8) -> Option<Fault> {
+    let mut other = whole.to_vec(alloc).ok()?;
+    *other.get_mut(at)? = byte;
+    Some(fault_of(alloc, &other))
+}
+
+/// A module is read; cut, or with a byte replaced, it is read or refused at an offset within it.
+fn stays_within(alloc: Global, whole: &[u8]) -> Option<bool> {
     for at in 0..whole.len() {
-        let cut = fault_of(rt, &whole[..at]);
-        assert!(rt;
-            cut.is_none_or(|(_, offset)| offset as usize <= at),
-            "cut at {at}"
-        );
-        let mut other = joined(rt.alloc(), whole, &[])?;
-        if let Some(byte) = other.get_mut(at) {
-            *byte = 0xff;
+        let cut = fault_of(alloc, &whole[..at]);
+        let replaced = fault_with_byte(alloc, whole, at, 0xff)?;
+        if !is_within(cut, at) || !is_within(replaced, whole.len()) {
+            return Some(false);
         }
-        let replaced = fault_of(rt, &other);
-        assert!(rt;
-            replaced.is_none_or(|(_, offset)| offset as usize <= whole.len()),
-            "replaced at {at}"
-        );
     }
-    Ok(())
+    Some(fault_of(alloc, whole).is_none())
+}
+
+fn first_not_within(alloc: Global, modules: &[&[u8]]) -> Option<usize> {
+    for (place, module) in modules.iter().enumerate() {
+        if stays_within(alloc, module) != Some(true) {
+            return Some(place);
+        }
+    }
+    None
 }
 
 #[test]
-fn whole_modules(rt: HostRuntime) -> Result<(), AllocError> {
-    within(&rt, &ENDS_AT_ONCE)?;
-    within(&rt, &LOOPS)?;
-    within(&rt, &WRITES)?;
-    within(&rt, &UNLINKS_AND_STOPS)?;
-    within(&rt, &UNLINKS_AND_EXITS)?;
-    within(&rt, &DIVIDES)?;
-    within(&rt, &DROPS_AFTER_A_BRANCH)?;
-    within(&rt, &DROPS_NOTHING)?;
-    Ok(())
+fn whole_modules(rt: HostRuntime) {
+    assert_eq!(rt; first_not_within(rt.alloc(), &WHOLE), None);
 }
 
 /// The kinds of faults, by their numbers.
@@ -639,9 +705,16 @@ const KINDS: [DecodeKind; 11] = [
     DecodeKind::TooMany,
 ];
 
+fn first_other_number(kinds: &[DecodeKind]) -> Option<usize> {
+    for (number, kind) in kinds.iter().enumerate() {
+        if kind.number() as usize != number {
+            return Some(number);
+        }
+    }
+    None
+}
+
 #[test]
 fn numbers_of_kinds(rt: HostRuntime) {
-    for (number, kind) in KINDS.iter().enumerate() {
-        assert_eq!(rt; kind.number() as usize, number);
-    }
+    assert_eq!(rt; first_other_number(&KINDS), None);
 }

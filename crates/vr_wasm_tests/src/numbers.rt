@@ -1,5 +1,6 @@
 //! Each instruction on integers at the edges of its operands, against values that tests/numbers.py computed.
 
+use std::alloc::Global;
 use vr_wasm_ast::{NumericFamily, ValType, numeric_family};
 use vr_wasm_num::{
     Memory, Trap, convert, i32_binary, i32_compare, i32_unary, i64_binary, i64_compare, i64_unary,
@@ -906,52 +907,92 @@ fn computed(op: u8, a: u64, b: u64) -> Result<u64, u8> {
     }
 }
 
+/// The first row that gives another number.
+fn first_wrong_of_two(rows: &[(u8, u64, u64, u64)]) -> Option<usize> {
+    for (place, (op, a, b, wanted)) in rows.iter().enumerate() {
+        if computed(*op, *a, *b) != Ok(*wanted) {
+            return Some(place);
+        }
+    }
+    None
+}
+
 #[test]
 fn two_operands(rt: HostRuntime) {
-    for row in &TWO_OPERANDS {
-        let (op, a, b, wanted) = *row;
-        assert_eq!(rt; computed(op, a, b), Ok(wanted));
+    assert_eq!(rt; first_wrong_of_two(&TWO_OPERANDS), None);
+}
+
+/// The first row that doesn't trap so.
+fn first_without_trap(rows: &[(u8, u64, u64, u8)]) -> Option<usize> {
+    for (place, (op, a, b, kind)) in rows.iter().enumerate() {
+        if computed(*op, *a, *b) != Err(*kind) {
+            return Some(place);
+        }
     }
+    None
 }
 
 #[test]
 fn traps(rt: HostRuntime) {
-    for row in &TRAPS {
-        let (op, a, b, kind) = *row;
-        assert_eq!(rt; computed(op, a, b), Err(kind));
+    assert_eq!(rt; first_without_trap(&TRAPS), None);
+}
+
+/// The first row that gives another number.
+fn first_wrong_of_one(rows: &[(u8, u64, u64)]) -> Option<usize> {
+    for (place, (op, a, wanted)) in rows.iter().enumerate() {
+        if computed(*op, *a, 0) != Ok(*wanted) {
+            return Some(place);
+        }
     }
+    None
 }
 
 #[test]
 fn one_operand(rt: HostRuntime) {
-    for row in &ONE_OPERAND {
-        let (op, a, wanted) = *row;
-        assert_eq!(rt; computed(op, a, 0), Ok(wanted));
-    }
+    assert_eq!(rt; first_wrong_of_one(&ONE_OPERAND), None);
+}
+
+/// What lies past the end is neither filled, stored nor loaded.
+fn ends_where_it_does(memory: &mut Memory) -> bool {
+    memory.fill(65_536, 0, 0)
+        && !memory.fill(65_537, 0, 0)
+        && memory.store(65_528, 8, 0x0807_0605_0403_0201)
+        && !memory.store(65_529, 8, 0)
+        && !memory.store(u64::MAX, 1, 0)
+        && memory.load(65_528, 4) == Some(0x0403_0201)
+        && memory.load(65_535, 1) == Some(8)
+        && memory.load(65_535, 2).is_none()
+}
+
+/// Bytes at the end are copied over each other, both ways, and not past the end.
+fn copies_at_its_end(memory: &mut Memory) -> bool {
+    memory.copy_within(65_526, 65_528, 8)
+        && !memory.copy_within(65_529, 0, 8)
+        && memory.load(65_528, 8) == Some(0x0807_0807_0605_0403)
+        && memory.copy_within(65_528, 65_526, 8)
+        && memory.load(65_528, 8) == Some(0x0807_0605_0403_0201)
+}
+
+/// It grows by one page, and its new bytes are zero.
+fn grows_once(memory: &mut Memory) -> bool {
+    memory.write(0, b"abc")
+        && memory.load(0, 4) == Some(0x0063_6261)
+        && memory.grow(1) == Some(1)
+        && memory.grow(1).is_none()
+        && memory.size() == 2
+        && memory.load(131_064, 8) == Some(0)
+}
+
+fn memory_ends(alloc: Global) -> Option<bool> {
+    let mut memory = Memory::new(alloc, 1, 2).ok()?;
+    Some(
+        ends_where_it_does(&mut memory)
+            && copies_at_its_end(&mut memory)
+            && grows_once(&mut memory),
+    )
 }
 
 #[test]
 fn the_end_of_the_memory(rt: HostRuntime) {
-    let Ok(mut memory) = Memory::new(rt.alloc(), 1, 2) else {
-        panic!(rt; "memory ran out");
-    };
-    assert!(rt; memory.fill(65_536, 0, 0));
-    assert!(rt; !memory.fill(65_537, 0, 0));
-    assert!(rt; memory.store(65_528, 8, 0x0807_0605_0403_0201));
-    assert!(rt; !memory.store(65_529, 8, 0));
-    assert!(rt; !memory.store(u64::MAX, 1, 0));
-    assert_eq!(rt; memory.load(65_528, 4), Some(0x0403_0201));
-    assert_eq!(rt; memory.load(65_535, 1), Some(8));
-    assert_eq!(rt; memory.load(65_535, 2), None);
-    assert!(rt; memory.copy_within(65_526, 65_528, 8));
-    assert!(rt; !memory.copy_within(65_529, 0, 8));
-    assert_eq!(rt; memory.load(65_528, 8), Some(0x0807_0807_0605_0403));
-    assert!(rt; memory.copy_within(65_528, 65_526, 8));
-    assert_eq!(rt; memory.load(65_528, 8), Some(0x0807_0605_0403_0201));
-    assert!(rt; memory.write(0, b"abc"));
-    assert_eq!(rt; memory.load(0, 4), Some(0x0063_6261));
-    assert_eq!(rt; memory.grow(1), Some(1));
-    assert_eq!(rt; memory.grow(1), None);
-    assert_eq!(rt; memory.size(), 2);
-    assert_eq!(rt; memory.load(131_064, 8), Some(0));
+    assert_eq!(rt; memory_ends(rt.alloc()), Some(true));
 }

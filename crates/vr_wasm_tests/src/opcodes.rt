@@ -55,43 +55,70 @@ const NUMERIC: [(u8, u8, NumericFamily); 12] = [
     (0xc2, 0xc4, NumericFamily::Unary(ValType::I64)),
 ];
 
+/// The load of an opcode by the table.
+fn load_of(op: u8, rows: &[(u8, ValType, u32, bool)]) -> Option<MemoryAccess> {
+    for (code, value, exponent, signed) in rows {
+        if *code == op {
+            return Some(MemoryAccess {
+                value: *value,
+                exponent: *exponent,
+                signed: *signed,
+            });
+        }
+    }
+    None
+}
+
+/// The store of an opcode by the table.
+fn store_of(op: u8, rows: &[(u8, ValType, u32)]) -> Option<MemoryAccess> {
+    for (code, value, exponent) in rows {
+        if *code == op {
+            return Some(MemoryAccess {
+                value: *value,
+                exponent: *exponent,
+                signed: false,
+            });
+        }
+    }
+    None
+}
+
+/// The family of an opcode by the table.
+fn family_of(op: u8, rows: &[(u8, u8, NumericFamily)]) -> Option<NumericFamily> {
+    for (first, last, family) in rows {
+        if *first <= op && op <= *last {
+            return Some(*family);
+        }
+    }
+    None
+}
+
+/// The first opcode with another load or store.
+fn first_other_access() -> Option<u8> {
+    for op in 0..=u8::MAX {
+        if load_access(op) != load_of(op, &LOADS) || store_access(op) != store_of(op, &STORES) {
+            return Some(op);
+        }
+    }
+    None
+}
+
+/// The first opcode with another family.
+fn first_other_family() -> Option<u8> {
+    for op in 0..=u8::MAX {
+        if numeric_family(op) != family_of(op, &NUMERIC) {
+            return Some(op);
+        }
+    }
+    None
+}
+
 #[test]
 fn memory_accesses(rt: HostRuntime) {
-    for op in 0..=u8::MAX {
-        let mut load = None;
-        for (code, value, exponent, signed) in LOADS {
-            if code == op {
-                load = Some(MemoryAccess {
-                    value,
-                    exponent,
-                    signed,
-                });
-            }
-        }
-        assert_eq!(rt; load_access(op), load, "load {op}");
-        let mut store = None;
-        for (code, value, exponent) in STORES {
-            if code == op {
-                store = Some(MemoryAccess {
-                    value,
-                    exponent,
-                    signed: false,
-                });
-            }
-        }
-        assert_eq!(rt; store_access(op), store, "store {op}");
-    }
+    assert_eq!(rt; first_other_access(), None);
 }
 
 #[test]
 fn numeric_families(rt: HostRuntime) {
-    for op in 0..=u8::MAX {
-        let mut family = None;
-        for (first, last, one) in NUMERIC {
-            if first <= op && op <= last {
-                family = Some(one);
-            }
-        }
-        assert_eq!(rt; numeric_family(op), family, "{op}");
-    }
+    assert_eq!(rt; first_other_family(), None);
 }

@@ -11,4 +11,5 @@ invariant-loop-path l = record {
   sorted : AreSorted l.self-inside.entries.items;
   made : from_sorted {R = path_cmp} l.self-inside.entries.items ≡ applied l.fn.self.map l.yielded;
   room : vec_len l.self-inside.entries + length l.fn.changes ≤ vec_capacity l.self-inside.entries + length l.yielded;
+  rooms : length l.fn.changes ≤ vec_len l.self-inside.rooms + length l.yielded;
 }

@@ -2,7 +2,7 @@ use Rattle.std.proofs.Common.{◌≡◌, ◌+◌, ◌-◌, ◌/◌, ◌%◌, ◌
 use Rattle.std.proofs.lemmas.List.{take_at}
 use Rattle.vr_files.specs.PageLists.{bytes_of, AreFull, Overwrites}
 use Rattle.vr_files.proofs.PageLemmas.{overwrites}
-use Rattle.vr_files.proofs.pages.write_pages.Goals as goal
+use Rattle.vr_files.proofs.pages.write_over_copies.Goals as goal
 
 pub returns-in-Ok-clause-ok : goal.returns-in-Ok-clause-ok
 returns-in-Ok-clause-ok c =

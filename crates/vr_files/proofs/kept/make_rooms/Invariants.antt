@@ -1,0 +1,6 @@
+-- As many rooms are lacking.
+use Rattle.std.proofs.Common.{◌-◌, vec_len}
+use Rattle.vr_files.proofs.kept.make_rooms.Given as goal
+
+abbrev pub decreases-loop-alloc : goal.decreases-loop-alloc
+decreases-loop-alloc l = l.count - vec_len l.rooms
