@@ -148,9 +148,6 @@ const REFUSED: [(CheckKind, u32, &str); 26] = [
 const ACCEPTED: &str =
     r#"{"identities":[{"id":7,"file_rights":[{"file_name":"a","rights":"r"},{"file_name":"a/","rights":"w"}]},{"id":0,"file_rights":[{"file_name":"a","rights":"r"}]},{"id":4294967295,"file_rights":[]}],"programs":[{"program_file_name":"p/m2","file_rights":[{"file_name":"a","rights":"r"}]},{"program_file_name":"p/m0","file_rights":[]}],"pipelines":[{"id":7,"pipeline":"p/m0"},{"id":3,"pipeline":"/p/m2 ; if flag { p/m0 } else { ./p/m2 } ;"}],"file_hashes":[{"file_path":"a","hash":"0000000000000000000000000000000000000000000000000000000000000000"}],"quotas":[{"file_name":"a","bytes":5},{"file_name":"a","bytes":3}]}"#;
 
-/// The pipeline with the id 3, as it is printed.
-const PRINTED: &str = "/p/m2 ; if /flag { /p/m0 } else { /p/m2 }";
-
 /// Each id with the place of its identity and that of its pipeline.
 const PLACES: [(u32, Option<u32>, Option<u32>); 6] = [
     (7, Some(0), Some(0)),
@@ -180,82 +177,44 @@ fn checked(alloc: Global, file: &str) -> Option<Result<CheckedPolicy, CheckFault
     Some(check(alloc, policy))
 }
 
-fn fault_of(alloc: Global, file: &str) -> Option<CheckFault> {
-    checked(alloc, file)?.err()
-}
-
-/// Each policy is refused by its rule, at its index; else the policy that isn't.
-fn are_refused(alloc: Global, rows: &[(CheckKind, u32, &'static str)]) -> Result<(), &'static str> {
-    for (kind, at, file) in rows {
-        let wanted = CheckFault {
-            kind: *kind,
-            at: *at,
-        };
-        if fault_of(alloc, file) != Some(wanted) {
-            return Err(file);
-        }
-    }
-    Ok(())
-}
-
 #[test]
 fn each_rule_has_its_first_index(rt: HostRuntime) -> Result<(), Fail> {
-    Ok(are_refused(rt.alloc(), &REFUSED)?)
-}
-
-fn are_numbered(rows: &[(CheckKind, u32)]) -> bool {
-    for (kind, number) in rows {
-        if kind.number() != *number {
-            return false;
-        }
+    for (kind, at, file) in REFUSED {
+        let fault = checked(rt.alloc(), file).ok_or("a policy")?.err();
+        assert_eq!(rt; fault, Some(CheckFault { kind, at }), "{file}");
     }
-    true
+    Ok(())
 }
 
 #[test]
 fn rules_are_numbered(rt: HostRuntime) {
-    assert!(rt; are_numbered(&NUMBERS));
-}
-
-fn accepted(alloc: Global) -> Option<CheckedPolicy> {
-    checked(alloc, ACCEPTED)?.ok()
-}
-
-fn have_places(policy: &CheckedPolicy, rows: &[(u32, Option<u32>, Option<u32>)]) -> bool {
-    for (id, identity, pipeline) in rows {
-        if policy.identity_place(*id) != *identity || policy.pipeline_place(*id) != *pipeline {
-            return false;
-        }
+    for (kind, number) in NUMBERS {
+        assert_eq!(rt; kind.number(), number);
     }
-    true
-}
-
-fn ids_are_placed(alloc: Global) -> Option<bool> {
-    let policy = accepted(alloc)?;
-    let count = policy.policy().identities.as_slice().len();
-    Some(count == 3 && have_places(&policy, &PLACES))
 }
 
 #[test]
 fn ids_have_places(rt: HostRuntime) -> Result<(), Fail> {
-    assert_eq!(rt; ids_are_placed(rt.alloc()), Some(true));
+    let policy = checked(rt.alloc(), ACCEPTED).ok_or("a policy")?;
+    let policy = policy.ok().ok_or("the rules")?;
+    assert_eq!(rt; policy.policy().identities.as_slice().len(), 3);
+    for (id, identity, pipeline) in PLACES {
+        assert_eq!(rt; policy.identity_place(id), identity, "identity {id}");
+        assert_eq!(rt; policy.pipeline_place(id), pipeline, "pipeline {id}");
+    }
     Ok(())
-}
-
-/// Whether the pipeline with this id is printed so.
-fn is_printed(alloc: Global, policy: &CheckedPolicy, id: u32, wanted: &[u8]) -> Option<bool> {
-    let place = policy.pipeline_place(id)?;
-    let text = print_pipe(alloc, policy.pipe(place)).ok()?;
-    Some(text.as_slice() == wanted)
-}
-
-fn accepted_is_printed(alloc: Global) -> Option<bool> {
-    let policy = accepted(alloc)?;
-    is_printed(alloc, &policy, 3, PRINTED.as_bytes())
 }
 
 #[test]
 fn pipelines_are_read(rt: HostRuntime) -> Result<(), Fail> {
-    assert_eq!(rt; accepted_is_printed(rt.alloc()), Some(true));
+    let alloc = rt.alloc();
+    let policy = checked(alloc, ACCEPTED).ok_or("a policy")?;
+    let policy = policy.ok().ok_or("the rules")?;
+    let place = policy.pipeline_place(3).ok_or("a place")?;
+    let text = print_pipe(alloc, policy.pipe(place)).ok().ok_or("memory")?;
+    assert_eq!(rt;
+        text.as_slice(),
+        b"/p/m2 ; if /flag { /p/m0 } else { /p/m2 }".as_slice()
+    );
     Ok(())
 }

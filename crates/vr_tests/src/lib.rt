@@ -6,17 +6,11 @@ mod books;
 #[cfg(test)]
 mod checks;
 #[cfg(test)]
-mod files;
-#[cfg(test)]
-mod keepers;
-#[cfg(test)]
 mod names;
 #[cfg(test)]
 mod pipelines;
 #[cfg(test)]
 mod policies;
-#[cfg(test)]
-mod regions;
 #[cfg(test)]
 mod replays;
 #[cfg(test)]

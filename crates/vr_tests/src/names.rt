@@ -1,9 +1,6 @@
-use std::alloc::Global;
+use std::alloc::{AllocError, Global};
 use std::test::Fail;
 use vr_base::{Grants, PathFault, Right, RightsWord, parse_grant_name, parse_path};
-
-/// Nothing, or the first row that is wrong.
-type Answer = Result<(), &'static str>;
 
 /// Names that stand for `/in`.
 const ONE_PATH: [&str; 3] = ["in", "./in", "/in"];
@@ -96,12 +93,12 @@ const BITS: [(u8, &str); 6] = [
 ];
 
 /// A path of this many bytes, in segments of 199.
-fn long_path(alloc: Global, length: usize) -> Option<Vec<u8>> {
+fn long_path(alloc: Global, length: usize) -> Result<Vec<u8>, AllocError> {
     let mut bytes = Vec::new(alloc);
     for i in 0..length {
-        bytes.push(if i % 200 == 0 { b'/' } else { b'a' }).ok()?;
+        bytes.push(if i % 200 == 0 { b'/' } else { b'a' })?;
     }
-    Some(bytes)
+    Ok(bytes)
 }
 
 fn fault_of(alloc: Global, name: &[u8]) -> Option<PathFault> {
@@ -115,193 +112,114 @@ fn name_of(right: Option<Right>) -> &'static str {
     }
 }
 
-/// Whether the name stands for the path.
-fn stands_for(alloc: Global, name: &str, wanted: &[u8]) -> bool {
-    match parse_path(alloc, name.as_bytes()) {
-        Ok(path) => path.as_slice() == wanted,
-        Err(_) => false,
-    }
-}
-
-fn stand_for_in(alloc: Global, names: &[&'static str]) -> Answer {
-    for name in names {
-        if !stands_for(alloc, name, b"/in") {
-            return Err(name);
-        }
-    }
-    Ok(())
-}
-
 #[test]
 fn names_stand_for_paths(rt: HostRuntime) -> Result<(), Fail> {
-    Ok(stand_for_in(rt.alloc(), &ONE_PATH)?)
-}
-
-fn have_faults(alloc: Global, rows: &[(&'static str, PathFault)]) -> Answer {
-    for (name, fault) in rows {
-        if fault_of(alloc, name.as_bytes()) != Some(*fault) {
-            return Err(name);
-        }
+    let alloc = rt.alloc();
+    for name in ONE_PATH {
+        let path = parse_path(alloc, name.as_bytes())?;
+        assert_eq!(rt; path.as_slice(), b"/in".as_slice(), "at {name}");
     }
     Ok(())
 }
 
 #[test]
 fn a_bad_name_has_a_first_fault(rt: HostRuntime) -> Result<(), Fail> {
-    Ok(have_faults(rt.alloc(), &NO_PATHS)?)
-}
-
-/// Whether a path of this length, with its leading `/` and without it, has this fault.
-fn is_at_most(alloc: Global, length: usize, fault: Option<PathFault>) -> Option<bool> {
-    let path = long_path(alloc, length)?;
-    let bare = path.strip_prefix(b"/")?;
-    Some(fault_of(alloc, path.as_slice()) == fault && fault_of(alloc, bare) == fault)
-}
-
-fn are_at_most(alloc: Global, rows: &[(usize, Option<PathFault>)]) -> Answer {
-    for (length, fault) in rows {
-        if is_at_most(alloc, *length, *fault) != Some(true) {
-            return Err("another length");
-        }
+    let alloc = rt.alloc();
+    for (name, fault) in NO_PATHS {
+        assert_eq!(rt; fault_of(alloc, name.as_bytes()), Some(fault), "at {name}");
     }
     Ok(())
 }
 
 #[test]
 fn names_have_a_most_length(rt: HostRuntime) -> Result<(), Fail> {
-    Ok(are_at_most(rt.alloc(), &LENGTHS)?)
-}
-
-fn segment_fault(alloc: Global, length: usize) -> Option<Option<PathFault>> {
-    let segment = vec![in alloc; b'a'; length].ok()?;
-    Some(fault_of(alloc, segment.as_slice()))
-}
-
-fn segments_are_at_most(alloc: Global, rows: &[(usize, Option<PathFault>)]) -> Answer {
-    for (length, fault) in rows {
-        if segment_fault(alloc, *length) != Some(*fault) {
-            return Err("another length");
-        }
+    let alloc = rt.alloc();
+    for (length, fault) in LENGTHS {
+        let path = long_path(alloc, length)?;
+        assert_eq!(rt; fault_of(alloc, path.as_slice()), fault, "at {length}");
+        let bare = path.strip_prefix(b"/").ok_or("a path begins with /")?;
+        assert_eq!(rt; fault_of(alloc, bare), fault, "at {length} without the /");
     }
     Ok(())
 }
 
 #[test]
 fn segments_have_a_most_length(rt: HostRuntime) -> Result<(), Fail> {
-    Ok(segments_are_at_most(rt.alloc(), &SEGMENTS)?)
-}
-
-/// Whether a grant's name is kept so.
-fn is_kept(alloc: Global, given: &str, name: &str, is_dir: bool) -> bool {
-    match parse_grant_name(alloc, given.as_bytes()) {
-        Ok(grant) => grant.as_slice() == name.as_bytes() && grant.is_dir() == is_dir,
-        Err(_) => false,
-    }
-}
-
-fn are_kept(alloc: Global, rows: &[(&'static str, &'static str, bool)]) -> Answer {
-    for (given, name, is_dir) in rows {
-        if !is_kept(alloc, given, name, *is_dir) {
-            return Err(given);
-        }
+    let alloc = rt.alloc();
+    for (length, fault) in SEGMENTS {
+        let segment = vec![in alloc; b'a'; length]?;
+        assert_eq!(rt; fault_of(alloc, segment.as_slice()), fault, "at {length}");
     }
     Ok(())
 }
 
 #[test]
 fn grant_names_are_paths_and_directories(rt: HostRuntime) -> Result<(), Fail> {
-    Ok(are_kept(rt.alloc(), &GRANT_NAMES)?)
-}
-
-fn grant_fault_of(alloc: Global, given: &str) -> Option<PathFault> {
-    parse_grant_name(alloc, given.as_bytes()).err()
-}
-
-fn have_grant_faults(alloc: Global, rows: &[(&'static str, PathFault)]) -> Answer {
-    for (given, fault) in rows {
-        if grant_fault_of(alloc, given) != Some(*fault) {
-            return Err(given);
-        }
+    let alloc = rt.alloc();
+    for (given, name, is_dir) in GRANT_NAMES {
+        let grant = parse_grant_name(alloc, given.as_bytes())?;
+        assert_eq!(rt; grant.as_slice(), name.as_bytes(), "at {given}");
+        assert_eq!(rt; grant.is_dir(), is_dir, "at {given}");
     }
     Ok(())
 }
 
 #[test]
 fn a_bad_grant_name_has_a_first_fault(rt: HostRuntime) -> Result<(), Fail> {
-    Ok(have_grant_faults(rt.alloc(), &NO_GRANT_NAMES)?)
-}
-
-fn grants(alloc: Global, rows: &[(&str, u32)]) -> Option<Grants> {
-    let mut items = Vec::new(alloc);
-    for (name, word) in rows {
-        let name = parse_grant_name(alloc, name.as_bytes()).ok()?;
-        items.push((name, RightsWord::new(*word))).ok()?;
-    }
-    Some(Grants::of(items))
-}
-
-fn word_on(alloc: Global, grants: &Grants, name: &str) -> Option<u32> {
-    let path = parse_path(alloc, name.as_bytes()).ok()?;
-    Some(grants.word_on(&path).word())
-}
-
-fn give_words(alloc: Global, rows: &[(&'static str, u32)]) -> Answer {
-    let grants = grants(alloc, &GRANTS).ok_or("grants")?;
-    for (name, word) in rows {
-        if word_on(alloc, &grants, name) != Some(*word) {
-            return Err(name);
-        }
+    let alloc = rt.alloc();
+    for (given, fault) in NO_GRANT_NAMES {
+        let found = parse_grant_name(alloc, given.as_bytes()).err();
+        assert_eq!(rt; found, Some(fault), "at {given}");
     }
     Ok(())
 }
 
-#[test]
-fn the_longest_grant_counts(rt: HostRuntime) -> Result<(), Fail> {
-    Ok(give_words(rt.alloc(), &WORDS)?)
+fn grants(alloc: Global) -> Result<Grants, Fail> {
+    let mut items = Vec::new(alloc);
+    for (name, word) in GRANTS {
+        let name = parse_grant_name(alloc, name.as_bytes())?;
+        items.push((name, RightsWord::new(word)))?;
+    }
+    Ok(Grants::of(items))
 }
 
-fn have_letters(rows: &[(&'static str, u32)]) -> Answer {
-    for (letters, word) in rows {
-        if RightsWord::of_letters(letters.as_bytes()) != Some(RightsWord::new(*word)) {
-            return Err(letters);
-        }
+#[test]
+fn the_longest_grant_counts(rt: HostRuntime) -> Result<(), Fail> {
+    let alloc = rt.alloc();
+    let grants = grants(alloc)?;
+    for (name, word) in WORDS {
+        let path = parse_path(alloc, name.as_bytes())?;
+        assert_eq!(rt; grants.word_on(&path).word(), word, "at {name}");
     }
     Ok(())
 }
 
 #[test]
 fn rights_have_letters(rt: HostRuntime) -> Result<(), Fail> {
+    for (letters, word) in LETTERS {
+        let found = RightsWord::of_letters(letters.as_bytes());
+        assert_eq!(rt; found, Some(RightsWord::new(word)), "at {letters}");
+    }
     assert_eq!(rt; RightsWord::of_letters(b"rq"), None);
-    Ok(have_letters(&LETTERS)?)
+    Ok(())
 }
 
-fn are_missing(rows: &[(u32, &'static str)]) -> Answer {
+#[test]
+fn the_lowest_missing_right_is_told(rt: HostRuntime) -> Result<(), Fail> {
     let reading = RightsWord::new(2_367_526);
-    for (needed, name) in rows {
-        if name_of(reading.missing(RightsWord::new(*needed))) != *name {
-            return Err(name);
-        }
+    for (needed, name) in MISSING {
+        let right = reading.missing(RightsWord::new(needed));
+        assert_eq!(rt; name_of(right), name, "at {needed}");
     }
     Ok(())
 }
 
 #[test]
-fn the_lowest_missing_right_is_told(_rt: HostRuntime) -> Result<(), Fail> {
-    Ok(are_missing(&MISSING)?)
-}
-
-fn have_names(rows: &[(u8, &'static str)]) -> Answer {
-    for (bit, name) in rows {
-        if name_of(Right::new(*bit)) != *name {
-            return Err(name);
-        }
+fn rights_have_names(rt: HostRuntime) -> Result<(), Fail> {
+    for (bit, name) in BITS {
+        assert_eq!(rt; name_of(Right::new(bit)), name, "at {bit}");
     }
     Ok(())
-}
-
-#[test]
-fn rights_have_names(_rt: HostRuntime) -> Result<(), Fail> {
-    Ok(have_names(&BITS)?)
 }
 
 #[test]

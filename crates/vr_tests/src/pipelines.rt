@@ -1,6 +1,6 @@
 use std::alloc::Global;
 use std::test::Fail;
-use vr_base::{Bytes, NoMemory, Path};
+use vr_base::{Bytes, NoMemory};
 use vr_pipe::{Pipe, PipeFault, Tree, parse_pipe, print_pipe};
 
 fn fault_of(alloc: Global, text: &[u8]) -> Option<PipeFault> {
@@ -87,55 +87,31 @@ const TREES: [(&str, &str, &str); 15] = [
     ),
 ];
 
-/// Whether a text has this tree, and is printed so.
-fn spells(alloc: Global, text: &str, tree: &str, printed: &str) -> Option<bool> {
-    let pipe = parse_pipe(alloc, text.as_bytes()).ok()?;
-    let found = outline_of(alloc, &pipe).ok()?;
-    let again = print_pipe(alloc, &pipe).ok()?;
-    Some(found.as_slice() == tree.as_bytes() && again.as_slice() == printed.as_bytes())
-}
-
-fn all_spell(
-    alloc: Global,
-    rows: &[(&'static str, &'static str, &'static str)],
-) -> Result<(), &'static str> {
-    for (text, tree, printed) in rows {
-        if spells(alloc, text, tree, printed) != Some(true) {
-            return Err(text);
-        }
+#[test]
+fn texts_spell_trees(rt: HostRuntime) -> Result<(), Fail> {
+    let alloc = rt.alloc();
+    for (text, tree, printed) in &TREES {
+        let pipe = parse_pipe(alloc, text.as_bytes()).ok().ok_or("a text")?;
+        let found = outline_of(alloc, &pipe).ok().ok_or("memory")?;
+        assert_eq!(rt; found.as_slice(), tree.as_bytes(), "the tree of {text}");
+        let again = print_pipe(alloc, &pipe).ok().ok_or("memory")?;
+        assert_eq!(rt; again.as_slice(), printed.as_bytes(), "the print of {text}");
     }
     Ok(())
 }
 
 #[test]
-fn texts_spell_trees(rt: HostRuntime) -> Result<(), Fail> {
-    Ok(all_spell(rt.alloc(), &TREES)?)
-}
-
-/// A text with many paths, those of its programs and those of its tests.
-const MANY: &str = "if f { a | b } else { if g { c } ; if h { d } } ; a";
-
-const PROGRAMS: [&str; 5] = ["/a", "/b", "/c", "/d", "/a"];
-
-const TESTS: [&str; 3] = ["/f", "/g", "/h"];
-
-fn are_paths(paths: &[Path], wanted: &[&str]) -> bool {
-    for (path, text) in paths.iter().zip(wanted) {
-        if path.as_slice() != text.as_bytes() {
-            return false;
-        }
-    }
-    paths.len() == wanted.len()
-}
-
-fn paths_are_in_order(alloc: Global) -> Option<bool> {
-    let pipe = parse_pipe(alloc, MANY.as_bytes()).ok()?;
-    Some(are_paths(pipe.programs(), &PROGRAMS) && are_paths(pipe.tests(), &TESTS))
-}
-
-#[test]
 fn paths_stand_in_the_order_of_the_text(rt: HostRuntime) -> Result<(), Fail> {
-    assert_eq!(rt; paths_are_in_order(rt.alloc()), Some(true));
+    let text = b"if f { a | b } else { if g { c } ; if h { d } } ; a";
+    let pipe = parse_pipe(rt.alloc(), text).ok().ok_or("a text")?;
+    assert_eq!(rt; pipe.programs().len(), 5);
+    for (path, want) in pipe.programs().iter().zip(["/a", "/b", "/c", "/d", "/a"]) {
+        assert_eq!(rt; path.as_slice(), want.as_bytes());
+    }
+    assert_eq!(rt; pipe.tests().len(), 3);
+    for (path, want) in pipe.tests().iter().zip(["/f", "/g", "/h"]) {
+        assert_eq!(rt; path.as_slice(), want.as_bytes());
+    }
     Ok(())
 }
 
@@ -193,18 +169,15 @@ const FAULTS: [(&str, PipeFault); 46] = [
     ("if f { a } b%", PipeFault::Expected(11)),
 ];
 
-fn have_faults(alloc: Global, rows: &[(&'static str, PipeFault)]) -> Result<(), &'static str> {
-    for (text, fault) in rows {
-        if fault_of(alloc, text.as_bytes()) != Some(*fault) {
-            return Err(text);
-        }
-    }
-    Ok(())
-}
-
 #[test]
-fn texts_have_a_first_fault(rt: HostRuntime) -> Result<(), Fail> {
-    Ok(have_faults(rt.alloc(), &FAULTS)?)
+fn texts_have_a_first_fault(rt: HostRuntime) {
+    for (text, fault) in &FAULTS {
+        assert_eq!(rt;
+            fault_of(rt.alloc(), text.as_bytes()),
+            Some(*fault),
+            "at {text}"
+        );
+    }
 }
 
 /// How often a part stands before a last one, and the fault of that text.
@@ -226,74 +199,40 @@ const LIMITS: [(&str, usize, &str, Option<PipeFault>); 13] = [
     ("if f{", 65, "", Some(PipeFault::TooMany(320))),
 ];
 
-/// How deep ifs stand in one another, and the fault of that text.
-const DEPTHS: [(usize, Option<PipeFault>); 2] = [(64, None), (65, Some(PipeFault::TooMany(320)))];
-
-/// The fault of a text of many equal parts and a last one.
-fn fault_of_repeated(
-    alloc: Global,
-    part: &str,
-    count: usize,
-    last: &str,
-) -> Option<Option<PipeFault>> {
-    let text = repeated(alloc, part.as_bytes(), count, last.as_bytes()).ok()?;
-    Some(fault_of(alloc, text.as_slice()))
-}
-
-fn are_limited(
-    alloc: Global,
-    rows: &[(&'static str, usize, &'static str, Option<PipeFault>)],
-) -> Result<(), &'static str> {
-    for (part, count, last, fault) in rows {
-        if fault_of_repeated(alloc, part, *count, last) != Some(*fault) {
-            return Err(part);
-        }
-    }
-    Ok(())
-}
-
-/// The fault of a text of so many ifs, one in the other.
-fn fault_at_depth(alloc: Global, count: usize) -> Option<Option<PipeFault>> {
-    let mut text = repeated(alloc, b"if f{", count, b"a").ok()?;
-    let braces = repeated(alloc, b"}", count, b"").ok()?;
-    text.push_slice(braces.as_slice()).ok()?;
-    Some(fault_of(alloc, text.as_slice()))
-}
-
-fn depths_are_limited(
-    alloc: Global,
-    rows: &[(usize, Option<PipeFault>)],
-) -> Result<(), &'static str> {
-    for (count, fault) in rows {
-        if fault_at_depth(alloc, *count) != Some(*fault) {
-            return Err("another depth");
-        }
-    }
-    Ok(())
-}
-
 #[test]
 fn limits_are_sixty_four(rt: HostRuntime) -> Result<(), Fail> {
-    are_limited(rt.alloc(), &LIMITS)?;
-    Ok(depths_are_limited(rt.alloc(), &DEPTHS)?)
-}
-
-/// A text of 64 programs, each between many blanks.
-fn text_with_blanks(alloc: Global) -> Option<Bytes> {
-    let blanks = repeated(alloc, b" \t\r\n", 4096, b"").ok()?;
-    let mut part = repeated(alloc, blanks.as_slice(), 1, b"a ;").ok()?;
-    part.push_slice(blanks.as_slice()).ok()?;
-    repeated(alloc, part.as_slice(), 64, b"").ok()
-}
-
-fn programs_between_blanks(alloc: Global) -> Option<usize> {
-    let text = text_with_blanks(alloc)?;
-    let pipe = parse_pipe(alloc, text.as_slice()).ok()?;
-    Some(pipe.programs().len())
+    let alloc = rt.alloc();
+    for (part, count, last, fault) in &LIMITS {
+        let text = repeated(alloc, part.as_bytes(), *count, last.as_bytes())
+            .ok()
+            .ok_or("memory")?;
+        assert_eq!(rt;
+            fault_of(alloc, text.as_slice()),
+            *fault,
+            "at {count} of {part}"
+        );
+    }
+    for (count, fault) in [(64, None), (65, Some(PipeFault::TooMany(320)))] {
+        let mut text = repeated(alloc, b"if f{", count, b"a").ok().ok_or("memory")?;
+        let braces = repeated(alloc, b"}", count, b"").ok().ok_or("memory")?;
+        text.push_slice(braces.as_slice()).ok().ok_or("memory")?;
+        assert_eq!(rt; fault_of(alloc, text.as_slice()), fault, "at depth {count}");
+    }
+    Ok(())
 }
 
 #[test]
 fn blanks_take_no_time(rt: HostRuntime) -> Result<(), Fail> {
-    assert_eq!(rt; programs_between_blanks(rt.alloc()), Some(64));
+    let alloc = rt.alloc();
+    let blanks = repeated(alloc, b" \t\r\n", 4096, b"").ok().ok_or("memory")?;
+    let mut part = repeated(alloc, blanks.as_slice(), 1, b"a ;")
+        .ok()
+        .ok_or("memory")?;
+    part.push_slice(blanks.as_slice()).ok().ok_or("memory")?;
+    let text = repeated(alloc, part.as_slice(), 64, b"")
+        .ok()
+        .ok_or("memory")?;
+    let pipe = parse_pipe(alloc, text.as_slice()).ok().ok_or("a text")?;
+    assert_eq!(rt; pipe.programs().len(), 64);
     Ok(())
 }
