@@ -1,6 +1,7 @@
 """Times `vr check` of large policies; what policy.sh calls. Each policy is made by a process of its own, so that the memory
 of the generator doesn't count as the program's."""
 import json, os, subprocess, sys, tempfile
+from timing import best
 
 MOST = 4194304
 
@@ -26,16 +27,6 @@ def many_pipelines(share):
     return {"identities": [{"id": 0, "file_rights": []}], "programs": programs, "pipelines": pipelines}
 
 
-def checked(program, path):
-    """The processor seconds and the peak memory in bytes of one check."""
-    with subprocess.Popen([program, "check", path], stdout=subprocess.DEVNULL) as child:
-        _, status, used = os.wait4(child.pid, 0)
-        child.returncode = os.waitstatus_to_exitcode(status)
-    if child.returncode:
-        sys.exit(f"status {child.returncode}")
-    return used.ru_utime + used.ru_stime, used.ru_maxrss * 1024
-
-
 SHAPES = {shape.__name__: shape for shape in (many_identities, many_grants, many_pipelines)}
 
 if sys.argv[1] == "make":
@@ -53,8 +44,7 @@ for name in SHAPES:
             subprocess.run([sys.executable, __file__, "make", name, share, path], check=True)
             size = os.path.getsize(path)
             assert size <= MOST, size
-            used = [checked(program, path) for _ in range(runs)]
-        seconds, peak = min(u[0] for u in used), max(u[1] for u in used)
+            seconds, peak = best(program, ["check", path], runs)
         took.append((size, seconds))
         print(f"{name}, {size / 2**20:.2f} MiB: {seconds:.3f} s, {peak / 2**20:.0f} MiB, {peak / size:.1f} times the file")
     (small, quick), (large, slow) = took

@@ -1,6 +1,7 @@
 #!/bin/sh
-# Replays scripts of 2,000 and 20,000 reads and writes over 200 files, made by a seeded generator, with the built program,
-# and prints lines a second of processor time and how the two compare.
+# Replays large scripts, made by a seeded generator, with the built program, and prints the processor seconds, lines a second,
+# how the sizes compare, and the peak memory: 100,000 reads and writes over 100, 10,000 and 64,000 files; appends to one file;
+# and a large file that is written again and again.
 #   bench/replay.sh [RUNS]
 set -eu
 cd "$(dirname "$0")/.."

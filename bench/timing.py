@@ -1,28 +1,24 @@
-"""What the benches share: the least processor time, in seconds, of several runs of the built program."""
-import os, resource, subprocess, sys, tempfile
+"""What the benches share: runs of the built program, the processor time of the quickest and the peak memory of the largest."""
+import os, subprocess, sys
+from typing import NamedTuple
 
 
-def spent():
-    used = resource.getrusage(resource.RUSAGE_CHILDREN)
-    return used.ru_utime + used.ru_stime
+class Spent(NamedTuple):
+    seconds: float  # of processor time
+    peak: int  # bytes of memory
+
+
+def spent(program, words):
+    """What one run of the program takes."""
+    with subprocess.Popen([program, *words], stdout=subprocess.DEVNULL) as child:
+        _, status, used = os.wait4(child.pid, 0)
+        child.returncode = os.waitstatus_to_exitcode(status)
+    if child.returncode:
+        sys.exit(f"{words}: status {child.returncode}")
+    return Spent(used.ru_utime + used.ru_stime, used.ru_maxrss * 1024)
 
 
 def best(program, words, runs):
-    times = []
-    for _ in range(runs):
-        before = spent()
-        done = subprocess.run([program, *words], stdout=subprocess.DEVNULL)
-        times.append(spent() - before)
-        if done.returncode:
-            sys.exit(f"{words}: status {done.returncode}")
-    return min(times)
-
-
-def replayed(program, policy, script, runs):
-    """The time of `vr replay` over files with these texts."""
-    with tempfile.TemporaryDirectory() as folder:
-        files = {os.path.join(folder, "policy.json"): policy, os.path.join(folder, "script.txt"): script}
-        for name, text in files.items():
-            with open(name, "w") as f:
-                f.write(text)
-        return best(program, ["replay", *files], runs)
+    """The least time and the largest peak of several runs."""
+    all_spent = [spent(program, words) for _ in range(runs)]
+    return Spent(min(s.seconds for s in all_spent), max(s.peak for s in all_spent))

@@ -2,9 +2,8 @@
 
 Each row: the words, the exit status, the text on standard error, and whether anything is on standard output.
 """
-import hashlib, os, subprocess, sys, tempfile
-
-program = os.path.abspath(sys.argv[1])
+import hashlib, os, sys
+from program import Rows
 
 POLICY = (
     '{"identities":[{"id":1,"file_rights":[{"file_name":"in","rights":"w"}]},'
@@ -15,15 +14,26 @@ HASH = hashlib.sha256(POLICY).hexdigest()
 ABC = hashlib.sha256(b"abc").hexdigest()
 TEXT = f"policy {HASH}\n1 1 done\n2 2 done bytes 3 616263\nfile /in 3 {ABC}\n".encode()
 
+# An entry in each list, members that nobody reads, a pipeline with a last semicolon, and a hash in upper case.
+ONE_OF_EACH = b"""{"debug":false,"server_url":"127.0.0.1:3017","identities":[{"certificate":"-----BEGIN CERTIFICATE-----\\nMIIB\\n-----END CERTIFICATE-----\\n","id":0,"file_rights":[{"file_name":"/input/","rights":8198},{"file_name":"./program/","rights":"wx"}]}],"programs":[{"program_file_name":"program/linear.wasm","id":0,"file_rights":[{"file_name":"/input/","rights":8198},{"file_name":"/output/","rights":"rw"}]}],"pipelines":[{"name":"linear","id":0,"pipeline":"/program/linear.wasm ;"}],"file_hashes":[{"file_path":"/program/linear.wasm","hash":"E3B0C44298FC1C149AFBF4C8996FB92427AE41E4649B934CA495991B7852B855"}],"max_memory_mib":256}"""
+
 FILES = {
+    "one-of-each": ONE_OF_EACH,
     "policy": POLICY,
     "script": SCRIPT,
     "nothing": b"",
     "no-json": b"{",
     "no-text": b"\xff\xfe",
+    "no-object": b"[]",
     "no-identities": b"{}",
+    "no-list": b'{"identities":7}',
+    "bad-id": b'{"identities":[{"id":1,"file_rights":[]},{"id":-1,"file_rights":[]}]}',
+    "bad-rights": b'{"identities":[{"id":1,"file_rights":[{"file_name":"a","rights":"rz"}]}]}',
+    "bad-hash": b'{"identities":[],"file_hashes":[{"file_path":"a","hash":"0"}]}',
     "nobody": b'{"identities":[]}',
     "one-name-twice": b'{"identities":[{"id":1,"file_rights":[]},{"id":2,"file_rights":[{"file_name":"input","rights":"r"},{"file_name":"/input","rights":"w"}]}]}',
+    "one-id-twice": b'{"identities":[{"id":7,"file_rights":[]},{"id":8,"file_rights":[]},{"id":7,"file_rights":[]}]}',
+    "bad-pipeline": b'{"identities":[{"id":1,"file_rights":[]}],"programs":[{"program_file_name":"a","file_rights":[]}],"pipelines":[{"id":0,"pipeline":"a | ;"}]}',
     "bad-name": b'{"identities":[{"id":1,"file_rights":[]},{"id":2,"file_rights":[{"file_name":"a/../b","rights":"r"}]}]}',
     "fly": b"# a comment\n1 fly /in\n",
     "no-verb": b"1\n",
@@ -31,12 +41,16 @@ FILES = {
     "two-spaces": b"1  read /in\n",
     "leading-zero": b"01 read /in\n",
     "large-id": b"4294967296 hash\n",
-    "no-path": b"1 read /in/\n",
     "no-body": b"1 write /in\n",
     "no-text-after": b"1 write /in text\n",
     "other-body": b"1 write /in bytes abc\n",
     "after-hash": b"1 hash now\n",
     "after-read": b"1 read /in now\n",
+    "no-more": b"1 append /in text\n",
+    "no-name-after": b"1 read  /in\n",
+    "no-number": b"x hash\n",
+    "late": b"# all is well\n\n1 hash \n",
+    "name-with-return": b"1 read /in\r",
     "lone-return": b"1 hash\n2 hash\r",
     "bytes": bytes(range(256)),
     "too-long": b"#" * 67108864 + b"\n",
@@ -51,19 +65,35 @@ ROWS = [
     (["hash", "policy"], 0, "", f"{HASH}\n".encode()),
     (["hash", "no-text"], 0, "", hashlib.sha256(b"\xff\xfe").hexdigest().encode() + b"\n"),
     (["check", "policy"], 0, "", b"ok 2 0 0 0\n"),
+    (["check", "one-of-each"], 0, "", b"ok 1 1 1 1\n"),
     (["check"], 1, "usage: word 1", b""),
+    (["check", "-policy"], 1, "usage: word 1", b""),
+    (["check", "policy", "script"], 1, "usage: word 2", b""),
+    (["check", "no-object"], 2, "policy refused: stage 1 rule 4 at 0", b""),
+    (["check", "no-list"], 2, "policy refused: stage 1 rule 4 at 0", b""),
+    (["check", "bad-id"], 2, "policy refused: stage 1 rule 4 at 1", b""),
+    (["check", "bad-rights"], 2, "policy refused: stage 1 rule 6 at 0", b""),
+    (["check", "bad-hash"], 2, "policy refused: stage 1 rule 7 at 0", b""),
+    (["check", "one-id-twice"], 2, "policy refused: stage 2 rule 2 at 2", b""),
+    (["check", "bad-pipeline"], 2, "policy refused: stage 2 rule 8 at 0", b""),
     (["check", "no-identities"], 2, "policy refused: stage 1 rule 3 at 0", b""),
     (["check", "nobody"], 2, "policy refused: stage 2 rule 1 at 0", b""),
     (["check", "one-name-twice"], 2, "policy refused: stage 2 rule 6 at 1", b""),
     (["check", "absent"], 4, "absent: absent", b""),
     ([], 1, "usage: word 0", b""),
     (["fly", "policy", "script"], 1, "usage: word 0", b""),
+    (["", "policy", "script"], 1, "usage: word 0", b""),
+    (["--help"], 1, "usage: word 0", b""),
     (["replay"], 1, "usage: word 1", b""),
     (["replay", "policy"], 1, "usage: word 2", b""),
     (["replay", "-policy", "script"], 1, "usage: word 1", b""),
     (["replay", "policy", ""], 1, "usage: word 2", b""),
     (["replay", "policy", "script", "script"], 1, "usage: word 3", b""),
+    (["replay", "", "script"], 1, "usage: word 1", b""),
+    (["replay", "policy", "--fuel"], 1, "usage: word 2", b""),
+    (["replay", "policy", "script", ""], 1, "usage: word 3", b""),
     (["hash"], 1, "usage: word 1", b""),
+    (["hash", "-"], 1, "usage: word 1", b""),
     (["hash", "policy", "script"], 1, "usage: word 2", b""),
     ([b"replay", b"policy", b"\xff"], 1, "usage: word 0", b""),
     (["replay", "no-json", "script"], 2, "policy refused: stage 1 rule 2 at 0", b""),
@@ -74,13 +104,19 @@ ROWS = [
     (["replay", "long-policy", "script"], 2, "policy refused: stage 1 rule 1 at 0", b""),
     (["hash", "long-policy"], 2, "policy refused: stage 1 rule 1 at 0", b""),
     (["replay", "no-json", "absent"], 2, "policy refused: stage 1 rule 2 at 0", b""),
+    (["replay", "nobody", "absent"], 2, "policy refused: stage 2 rule 1 at 0", b""),
+    (["replay", "one-name-twice", "absent"], 2, "policy refused: stage 2 rule 6 at 1", b""),
     (["replay", "policy", "fly"], 3, "script refused: line 2", b""),
     (["replay", "policy", "no-verb"], 3, "script refused: line 1", b""),
     (["replay", "policy", "no-name"], 3, "script refused: line 1", b""),
+    (["replay", "policy", "no-name-after"], 3, "script refused: line 1", b""),
+    (["replay", "policy", "no-number"], 3, "script refused: line 1", b""),
+    (["replay", "policy", "no-more"], 3, "script refused: line 1", b""),
+    (["replay", "policy", "name-with-return"], 3, "script refused: line 1", b""),
+    (["replay", "policy", "late"], 3, "script refused: line 3", b""),
     (["replay", "policy", "two-spaces"], 3, "script refused: line 1", b""),
     (["replay", "policy", "leading-zero"], 3, "script refused: line 1", b""),
     (["replay", "policy", "large-id"], 3, "script refused: line 1", b""),
-    (["replay", "policy", "no-path"], 0, "", f"policy {HASH}\n1 1 bad path 1\n".encode()),
     (["replay", "policy", "no-body"], 3, "script refused: line 1", b""),
     (["replay", "policy", "no-text-after"], 3, "script refused: line 1", b""),
     (["replay", "policy", "other-body"], 3, "script refused: line 1", b""),
@@ -99,44 +135,18 @@ ROWS = [
 ]
 
 
-def run(words, folder, **how):
-    return subprocess.run([program, *words], cwd=folder, stderr=subprocess.PIPE, timeout=60, **how)
-
-
-def compare(words, done, status, error, out):
-    wanted = error + "\n" if error else ""
-    if (done.returncode, done.stderr.decode(), done.stdout) != (status, wanted, out):
-        print(f"{words}: wanted {status} {wanted!r} {out!r}", file=sys.stderr)
-        print(f"{words}: found {done.returncode} {done.stderr!r} {done.stdout!r}", file=sys.stderr)
-        return 1
-    return 0
-
-
-with tempfile.TemporaryDirectory() as folder:
-    for name, content in FILES.items():
-        with open(os.path.join(folder, name), "wb") as f:
-            f.write(content)
-    os.mkdir(os.path.join(folder, "folder"))
-    wrong = 0
-    for words, status, error, out in ROWS:
-        wrong += compare(words, run(words, folder, stdout=subprocess.PIPE), status, error, out)
-    rows = len(ROWS)
-    # Standard output that takes nothing, and one that is closed.
-    with open("/dev/full", "wb") as full:
-        done = run(["replay", "policy", "script"], folder, stdout=full)
-    done.stdout = b""
-    wrong += compare("standard output full", done, 6, "write fault", b"")
-    closed = subprocess.run(
-        ["sh", "-c", '"$0" replay policy script >&-', program], cwd=folder, stderr=subprocess.PIPE, timeout=60
-    )
-    closed.stdout = b""
-    wrong += compare("standard output closed", closed, 6, "write fault", b"")
-    rows += 2
-    # A file that may not be read; the superuser reads it all the same.
-    if os.geteuid() != 0:
-        os.chmod(os.path.join(folder, "script"), 0)
-        wrong += compare("unreadable", run(["replay", "policy", "script"], folder, stdout=subprocess.PIPE), 5, "read fault", b"")
-        rows += 1
-
-print(f"statuses: {rows - wrong} of {rows} as they should be")
-sys.exit(1 if wrong else 0)
+table = Rows("statuses", sys.argv[1], FILES)
+os.mkdir(os.path.join(table.folder, "folder"))
+for words, status, error, out in ROWS:
+    table.row(words, status, error, out)
+# Standard output that takes nothing, and one that is closed.
+with open("/dev/full", "wb") as full:
+    done = table.run([table.program, "replay", "policy", "script"], stdout=full)
+table.compare("standard output full", done, 6, "write fault", b"")
+done = table.run(["sh", "-c", '"$0" replay policy script >&-', table.program])
+table.compare("standard output closed", done, 6, "write fault", b"")
+# A file that may not be read; the superuser reads it all the same.
+if os.geteuid() != 0:
+    os.chmod(os.path.join(table.folder, "script"), 0)
+    table.row(["replay", "policy", "script"], 5, "read fault", b"")
+table.end()

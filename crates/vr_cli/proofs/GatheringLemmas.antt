@@ -106,3 +106,8 @@ has_memory_unless reply h = refl
 pub on_ok : {A E P : Type 0} (result : Result A E) → P → OnOk result P
 on_ok (Ok x) p = p
 on_ok (Err e) p = tt
+
+-- what is said of an Ok, where an error came
+pub no_ok : {A E : Type 0} (P : Type 0) (result : Result A E) → IsErr result → OnOk result P
+no_ok P (Ok x) failed = cc
+no_ok P (Err e) failed = tt

@@ -3,4 +3,5 @@ pub mod FileLemmas
 pub mod GatheringLemmas
 pub mod Mapped
 pub mod ReplayLemmas
+pub mod StartLemmas
 pub mod WordLemmas

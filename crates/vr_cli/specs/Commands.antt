@@ -1,8 +1,8 @@
 -- What the code's own types stand for.
 use Rattle.std.specs.Prelude.{List, ℕ}
 use Rattle.vr_core.specs.Machine.{Origin}
-use Rattle.vr_core.specs.State.{no_files}
-use Rattle.vr_policy_read.specs.PolicyData.{PolicyData}
+use Rattle.vr_policy_check.specs.Rules.{CheckedData}
+use Rattle.vr_cli.specs.Outputs.{origin_under}
 use Rattle.vr_cli.specs.Words.{Task, hash, check, replay}
 use Rattle.vr_cli.specs.declared.words.Command.{Command}
 use Rattle.vr_cli.specs.declared.words.Command.TheVariants.{Hash, Check, Replay}
@@ -13,6 +13,6 @@ task_of (Hash policy) = hash policy.now
 task_of (Check policy) = check policy.now
 task_of (Replay policy script) = replay policy.now script.now
 
--- where a replay under a policy with this hash begins: without files
-abbrev pub started : PolicyData × List ℕ → Origin
-started said = record { policy = said.0; hash = said.1; opening = no_files }
+-- where a replay begins under a policy with this hash
+abbrev pub started : CheckedData × List ℕ → Origin
+started said = origin_under said.0 said.1

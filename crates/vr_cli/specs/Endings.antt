@@ -25,7 +25,8 @@ abbrev pub Gives : {A : Type 0} → Tested A → Tested A → Type 0
 Gives result answer = GivesBy told result answer
 
 -- Where the folder tells its files, what was returned is the answer over them.
-abbrev pub GivesOver : {A : Type 0} → Option NamedFiles → Tested A → (NamedFiles → Tested A) → Type 0
+abbrev pub GivesOver : {A : Type 0}
+    → Option NamedFiles → Tested A → (NamedFiles → Tested A) → Type 0
 GivesOver files result answer = IfSome files (λ fs. Gives result (answer fs))
 
 -- of a status while files are read: an absent file and a failed read come only where their count rose
@@ -91,7 +92,8 @@ SaysOf (Usage index) answer old new = ⊥
 SaysOf refusal answer old new = answer ≡ Err refusal
 
 -- where the folder tells its files, what a status says of the answer over them
-abbrev pub SaysOver : Option NamedFiles → Status → (NamedFiles → Tested (List ℕ)) → Option (List ℕ) → Option (List ℕ) → Type 0
+abbrev pub SaysOver : Option NamedFiles → Status → (NamedFiles → Tested (List ℕ))
+    → Option (List ℕ) → Option (List ℕ) → Type 0
 SaysOver files status answer old new = IfSome files (λ fs. SaysOf status (answer fs) old new)
 
 -- what the outside makes comes only where its count rose; the words are accepted
@@ -108,7 +110,8 @@ status_of (Err status) = status
 -- ---- how a command ends
 
 -- How a command ended whose text, or refusal, is the answer, where a sink had the old bytes and has the new ones.
-pub record Ends (answer : Tested (List ℕ)) (status : Status) (old new : Option (List ℕ)) : Type 0 where
+pub record Ends
+    (answer : Tested (List ℕ)) (status : Status) (old new : Option (List ℕ)) : Type 0 where
   -- at Ok the whole text was written
   pub done : status ≡ statuses.Ok → IsWritten answer old new
   -- a refusal is the answer

@@ -14,6 +14,7 @@ pub record IsUnused (most : ℕ) (listed : List ℕ) (sink : MemSink) : Type 0 w
 -- A write of so many bytes that isn't one of the failing ones: it takes what fits, and fails where there are bytes and no
 -- room is left for them.
 pub record TakesWhatFits (sink : MemSink) (size : ℕ) (result : Result ℕ Failed) : Type 0 where
-  pub fits : vec_len sink.bytes < sink.room → result ≡ Ok (min size (sink.room - vec_len sink.bytes))
+  pub fits : vec_len sink.bytes < sink.room
+      → result ≡ Ok (min size (sink.room - vec_len sink.bytes))
   pub empty : size ≡ 0 → result ≡ Ok 0
   pub full : 0 < size → sink.room ≤ vec_len sink.bytes → IsErr result

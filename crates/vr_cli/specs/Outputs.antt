@@ -5,7 +5,7 @@ use Rattle.sha2.specs.Sha256.{sha256}
 use Rattle.vr_base.specs.Checks.{◌>>=◌, or_fault, unless_fault, fault_if, result_map_err}
 use Rattle.vr_base.specs.Outside.{file_of}
 use Rattle.vr_base.specs.Signs.{line_feed}
-use Rattle.vr_core.specs.State.{no_files}
+use Rattle.vr_files.specs.FileMaps.{no_files}
 use Rattle.vr_core.specs.Machine.{Origin}
 use Rattle.vr_policy_read.specs.Limits.{most_policy}
 use Rattle.vr_policy_read.specs.Policies.{policy_within}
@@ -52,18 +52,29 @@ checked_from most bytes = do
 -- how many identities, programs, pipelines and hashes of files a policy has
 abbrev pub counts_line : PolicyData → List ℕ
 counts_line policy =
-    codes "ok " ++ (decimal (length policy.identities) ++ (codes " " ++ (decimal (length policy.programs)
-    ++ (codes " " ++ (decimal (length policy.pipelines) ++ (codes " " ++ (decimal (length policy.pins) ++ line_feed ∷ [])))))))
+    codes "ok " ++ (decimal (length policy.identities)
+    ++ (codes " " ++ (decimal (length policy.programs)
+    ++ (codes " " ++ (decimal (length policy.pipelines)
+    ++ (codes " " ++ (decimal (length policy.pins) ++ line_feed ∷ [])))))))
 
 -- the hash of a policy file with these bytes, in 64 digits
 abbrev pub digits_of : List ℕ → List ℕ
 digits_of bytes = encode_lower (sha256 bytes)
 
--- where a replay begins: the policy that at most so many bytes say, the hash of its file, and no files
+-- how many steps all programs of a run may make together
+abbrev pub run_fuel : ℕ
+run_fuel = 50000000
+
+-- where a replay begins under a checked policy with the hash of its file: without files
+abbrev pub origin_under : CheckedData → List ℕ → Origin
+origin_under policy digits =
+    record { policy = policy; hash = digits; fuel = run_fuel; opening = no_files }
+
+-- where a replay begins under the policy that at most so many bytes say
 abbrev pub origin_from : ℕ → List ℕ → Tested Origin
 origin_from most bytes = do
-  policy ← result_map_err policy_refusal (policy_within most bytes)
-  Ok (record { policy = policy; hash = digits_of bytes; opening = no_files })
+  policy ← checked_from most bytes
+  Ok (origin_under policy (digits_of bytes))
 
 -- the calls of the script that at most so many bytes are
 abbrev pub script_in : ℕ → List ℕ → Tested (List Line)
@@ -71,7 +82,9 @@ script_in most bytes = result_map_err ScriptRefused (script_of most bytes)
 
 -- the hash of a policy file of at most so many bytes; a longer one is refused as its reading would refuse it
 abbrev pub digits_from : ℕ → List ℕ → Tested (List ℕ)
-digits_from most bytes = unless_fault (fault_if (nat_lt most (length bytes)) (PolicyRefused 1 (kind_number TooLong) 0)) (digits_of bytes)
+digits_from most bytes =
+    unless_fault (fault_if (nat_lt most (length bytes)) (PolicyRefused 1 (kind_number TooLong) 0))
+    (digits_of bytes)
 
 -- what a reading says of the file that the word at this place names
 abbrev pub in_file : {A : Type 0} → (List ℕ → Tested A) → ℕ → List ℕ → NamedFiles → Tested A

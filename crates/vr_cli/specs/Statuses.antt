@@ -19,7 +19,8 @@ abbrev pub status_text : List (List ℕ) → Status → List ℕ
 status_text words statuses.Ok = []
 status_text words (statuses.Usage index) = codes "usage: word " ++ decimal index
 status_text words (statuses.PolicyRefused stage rule index) =
-    codes "policy refused: stage " ++ (decimal stage ++ (codes " rule " ++ (decimal rule ++ (codes " at " ++ decimal index))))
+    codes "policy refused: stage " ++ (decimal stage
+    ++ (codes " rule " ++ (decimal rule ++ (codes " at " ++ decimal index))))
 status_text words (statuses.ScriptRefused line) = codes "script refused: line " ++ decimal line
 status_text words (statuses.Absent word) = codes "absent: " ++ word_at words word
 status_text words statuses.ReadFault = codes "read fault"

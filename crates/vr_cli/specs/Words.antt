@@ -28,7 +28,11 @@ abbrev pub forms : List Form
 forms =
     record { name = codes "hash"; files = 1; task = λ files. hash (word_at files 0) }
     ∷ record { name = codes "check"; files = 1; task = λ files. check (word_at files 0) }
-    ∷ record { name = codes "replay"; files = 2; task = λ files. replay (word_at files 0) (word_at files 1) } ∷ []
+    ∷ record {
+      name = codes "replay";
+      files = 2;
+      task = λ files. replay (word_at files 0) (word_at files 1);
+    } ∷ []
 
 -- the command with this name
 abbrev pub form_of : List ℕ → Option Form
@@ -78,7 +82,8 @@ pub record IsWrongAt (words : List (List ℕ)) (place : ℕ) : Type 0 where
 abbrev pub files_fault : ℕ → ℕ → List (List ℕ) → Option ℕ
 files_fault place count [] = if count == 0 then None else Some place
 files_fault place count (word ∷ words) =
-    if nat_lt 0 count && is_file_word word then files_fault (place + 1) (count - 1) words else Some place
+    if nat_lt 0 count && is_file_word word then files_fault (place + 1) (count - 1) words
+    else Some place
 
 -- what the words ask for, or the place of the first that is out of place
 abbrev pub asked : List (List ℕ) → Result Task ℕ

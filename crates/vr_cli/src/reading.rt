@@ -37,27 +37,6 @@ fn read_file<F: Folder>(
     }
 }
 
-/// The policy that the bytes say, and their hash.
-fn parse_policy(alloc: Global, bytes: &[u8]) -> Result<(Policy, [u8; 64]), Status>
-    ensures answer { Gives (result_map started result) (origin_from most_policy bytes.now) }
-    ensures refusal { IfErr result IsRefusal }
-{
-    match read_policy(alloc, bytes) {
-        Ok(policy) => Ok((policy, policy_hash(bytes))),
-        Err(
-            ReadFault {
-                kind: ReadKind::OutOfMemory,
-                ..
-            },
-        ) => Err(Status::WantOfMemory),
-        Err(fault) => Err(Status::PolicyRefused {
-            stage: 1,
-            rule: fault.kind.number(),
-            index: fault.at,
-        }),
-    }
-}
-
 /// The policy that the bytes say, checked.
 fn parse_checked(alloc: Global, bytes: &[u8]) -> Result<CheckedPolicy, Status>
     ensures answer { Gives result (checked_from most_policy bytes.now) }
@@ -100,6 +79,15 @@ fn check_policy(alloc: Global, policy: Policy) -> Result<CheckedPolicy, Status>
     }
 }
 
+/// The policy that the bytes say, checked, and their hash.
+fn parse_policy(alloc: Global, bytes: &[u8]) -> Result<(CheckedPolicy, [u8; 64]), Status>
+    ensures answer { Gives (result_map started result) (origin_from most_policy bytes.now) }
+    ensures refusal { IfErr result IsRefusal }
+{
+    let checked = parse_checked(alloc, bytes)?;
+    Ok((checked, policy_hash(bytes)))
+}
+
 /// The calls of the script that the bytes are.
 fn parse_script(alloc: Global, bytes: &[u8]) -> Result<Script, Status>
     ensures answer { Gives result (script_in most_script bytes.now) }
@@ -127,13 +115,13 @@ fn hash_policy(bytes: &[u8]) -> Result<[u8; 64], Status>
     Ok(policy_hash(bytes))
 }
 
-/// The policy in the file of this name, and the hash of the file.
+/// The policy in the file of this name, checked, and the hash of the file.
 #[tactic(auto, using(crate::proofs::FileLemmas::refusal_is_counted))]
 pub fn load_policy<F: Folder>(
     alloc: Global,
     folder: &mut F,
     name: &str,
-) -> Result<(Policy, [u8; 64]), Status>
+) -> Result<(CheckedPolicy, [u8; 64]), Status>
     ensures same { F.files folder.new ≡ F.files folder.old }
     ensures told { GivesOver (F.files folder.old) (result_map started result)
         (in_file (origin_from most_policy) 1 name.now) }

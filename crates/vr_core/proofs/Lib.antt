@@ -1,2 +1,6 @@
-pub mod FileMaps
+pub mod CrashLemmas
 pub mod Histories
+pub mod OpeningLemmas
+pub mod Places
+pub mod QuotaLemmas
+pub mod Totals

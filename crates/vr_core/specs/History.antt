@@ -1,13 +1,14 @@
 -- Histories: the calls that were made, with their replies. A history is legal where its replies are those to
 -- which the machine's replay of its calls comes.
-use Rattle.std.specs.Prelude.{◌≡◌, ℕ, IsTrue, IsFalse, List, [], ◌∷◌, ◌++◌, map, All}
+use Rattle.std.specs.Prelude.{◌≡◌, ℕ, Bool, is_some, IsTrue, IsFalse, Option, IfSome, List, [], ◌∷◌, ◌++◌, map, All, Result, Ok, Err}
+use Rattle.std.specs.Option.{ForSome}
 use Rattle.vr_base.specs.declared.calls.Call.{Call}
 use Rattle.vr_base.specs.declared.calls.Reply.{Reply}
 use Rattle.vr_base.specs.declared.calls.Entry.{Entry}
-use Rattle.vr_policy_read.specs.PolicyData.{PolicyData}
-use Rattle.vr_core.specs.State.{FileMap, no_files}
+use Rattle.vr_files.specs.FileMaps.{FileMap}
+use Rattle.vr_policy_check.specs.Rules.{CheckedData}
 use Rattle.vr_core.specs.Machine.{Origin, Replay, replay, step, effect}
-use Rattle.vr_core.specs.Replies.{has_memory, is_made}
+use Rattle.vr_core.specs.Replies.{is_made}
 
 -- the entry of a call
 abbrev pub entry : ℕ → ℕ → Call → Reply → Entry
@@ -34,31 +35,58 @@ pub record IsLegal (origin : Origin) (history : List Entry) : Type 0 where
 abbrev pub files_after : Origin → List Entry → FileMap
 files_after origin history = (replay_of origin history).files
 
--- What a book stands for: where its history began, the history, and the files after it.
-pub record BookState : Type 0 where
+-- What a book stands for: where its history began, the history, the files after it, and the keeper of the files.
+pub record BookState (K : Type 0) : Type 0 where
   pub origin : Origin
   pub journal : List Entry
   pub files : FileMap
+  pub keeper : K
 
-abbrev pub book_state : PolicyData → List ℕ → List Entry → FileMap → BookState
-book_state policy hash journal files =
-    record { origin = record { policy = policy; hash = hash; opening = no_files }; journal = journal; files = files }
+-- the state with these parts
+abbrev pub book_state : {K : Type 0} → CheckedData → List ℕ → ℕ → FileMap → List Entry → FileMap → K → BookState K
+book_state policy hash fuel opening journal files keeper = record {
+  origin = record { policy = policy; hash = hash; fuel = fuel; opening = opening };
+  journal = journal;
+  files = files;
+  keeper = keeper;
+}
 
 -- The journal is legal, and the files are those after it.
-pub record IsBook (book : BookState) : Type 0 where
-  pub legal : IsLegal book.origin book.journal
-  pub current : book.files ≡ files_after book.origin book.journal
+pub record IsCurrent (origin : Origin) (journal : List Entry) (files : FileMap) : Type 0 where
+  pub legal : IsLegal origin journal
+  pub current : files ≡ files_after origin journal
 
--- The call came to this reply: the reply and the files after it are the machine's, and where the call was made the journal
--- has its entry at the end.
-pub record Makes (old new : BookState) (seat who : ℕ) (call : Call) (reply : Reply) : Type 0 where
+-- The journal is legal, the files are those after it, and the keeper was loaded. Where it tells its rows, they are the
+-- files.
+pub record IsBook {K : Type 0} (rows : K → Option FileMap) (is_loaded : K → Bool) (book : BookState K) : Type 0 where
+  pub history : IsCurrent book.origin book.journal book.files
+  pub loaded : IsTrue (is_loaded book.keeper)
+  pub kept : ForSome (rows book.keeper) (λ kept. kept ≡ book.files)
+
+-- What a call does to a book, apart from its keeper: where the call was made, its reply and the files after it are the
+-- machine's, and the journal has its entry at the end; else neither changed.
+pub record Steps {K : Type 0} (old new : BookState K) (seat who : ℕ) (call : Call) (reply : Reply) : Type 0 where
   pub origin : new.origin ≡ old.origin
-  pub outcome : IsTrue (has_memory reply) → step old.origin old.files who call ≡ effect reply new.files
+  pub outcome : IsTrue (is_made reply) → step old.origin old.files who call ≡ effect reply new.files
   pub made : IsTrue (is_made reply) → new.journal ≡ old.journal ++ entry seat who call reply ∷ []
-  pub unmade : IsFalse (is_made reply) → new ≡ old
+  pub journal : IsFalse (is_made reply) → new.journal ≡ old.journal
+  pub files : IsFalse (is_made reply) → new.files ≡ old.files
 
--- A new book: under this policy and hash, without calls and without files.
-pub record Opens (policy : PolicyData) (hash : List ℕ) (book : BookState) : Type 0 where
-  pub origin : book.origin ≡ record { policy = policy; hash = hash; opening = no_files }
+-- the keeper, whether a book was started over it or it came back
+abbrev pub keeper_of : {K E : Type 0} → Result (BookState K) (E × K) → K
+keeper_of (Ok book) = book.keeper
+keeper_of (Err refusal) = refusal.1
+
+-- A keeper tells its rows, and what a crash may leave, where it did before.
+pub record TellsAsBefore {K : Type 0} (rows_of : K → Option FileMap) (tells : K → Bool) (old new : K) : Type 0 where
+  pub rows : is_some (rows_of new) ≡ is_some (rows_of old)
+  pub crashes : tells new ≡ tells old
+
+-- A new book: without calls, over the files that the keeper loaded, which are its rows where it tells them.
+pub record Opens {K : Type 0} (under : CheckedData) (digits : List ℕ) (steps : ℕ) (rows : Option FileMap) (book : BookState K) : Type 0 where
+  pub policy : book.origin.policy ≡ under
+  pub hash : book.origin.hash ≡ digits
+  pub fuel : book.origin.fuel ≡ steps
   pub journal : book.journal ≡ []
-  pub files : book.files ≡ no_files
+  pub opening : book.files ≡ book.origin.opening
+  pub loaded : IfSome rows (λ kept. book.origin.opening ≡ kept)

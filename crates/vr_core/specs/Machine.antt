@@ -6,7 +6,8 @@
 --   4 The caller has the rights that the call needs.
 --   5 The file is there.
 --   6 The file's new size is no more than a file may have.
-use Rattle.std.specs.Prelude.{ℕ, ◌+◌, ◌-◌, ◌^◌, ◌==◌, min, nat_lt, List, [], ◌∷◌, ◌++◌, length, find, option_map, unwrap_or, Result, Ok, Err}
+--   7 The region's new total is no more than its quota, or than it was.
+use Rattle.std.specs.Prelude.{ℕ, ◌-◌, ◌^◌, ◌==◌, min, nat_lt, List, [], ◌∷◌, ◌++◌, length, find, option_map, unwrap_or, Result, Ok, Err}
 use Rattle.std.specs.FinMap.{get, insert}
 use Rattle.vr_base.specs.Checks.{◌>>=◌, ◌>>◌, or_fault, unless_fault, fault_if, result_map_err}
 use Rattle.vr_base.specs.Names.{path_of}
@@ -15,15 +16,18 @@ use Rattle.vr_base.specs.declared.calls.Call.{Call}
 use Rattle.vr_base.specs.declared.calls.Call.TheVariants as calls
 use Rattle.vr_base.specs.declared.calls.Reply.{Reply}
 use Rattle.vr_base.specs.declared.calls.Reply.TheVariants.{Stored, Read, PolicyHash, NoSuchFile, NoSuchPipeline, Denied, TooLarge, BadPath, Unavailable, Unkeyed}
-use Rattle.vr_policy_read.specs.PolicyData.{PolicyData}
+use Rattle.vr_policy_check.specs.Rules.{CheckedData}
+use Rattle.vr_files.specs.FileMaps.{FileMap}
 use Rattle.vr_policy_read.specs.declared.entries.Identity.{Identity}
 use Rattle.vr_policy_read.specs.declared.entries.Pipeline.{Pipeline}
-use Rattle.vr_core.specs.State.{FileMap}
+use Rattle.vr_core.specs.Quotas.{quota_fault}
 
--- Where the machine begins: the policy, the hash of its file in 64 digits, and the files.
+-- Where the machine begins: the policy, the hash of its file in 64 digits, the steps that all programs of a run may make
+-- together, and the files.
 pub record Origin : Type 0 where
-  pub policy : PolicyData
+  pub policy : CheckedData
   pub hash : List ℕ
+  pub fuel : ℕ
   pub opening : FileMap
 
 -- ---- the checks, each of which lets a value pass or has the reply of its failure
@@ -36,13 +40,13 @@ Checked A = Result A Reply
 abbrev pub path_named : List ℕ → Checked (List ℕ)
 path_named name = result_map_err BadPath (path_of name)
 
--- the identity that calls: the first with this id
-abbrev pub identity_of : PolicyData → ℕ → Checked Identity
-identity_of policy who = or_fault Unkeyed (find (λ identity. identity.id == who) policy.identities)
+-- the identity that calls
+abbrev pub identity_of : CheckedData → ℕ → Checked Identity
+identity_of policy who = or_fault Unkeyed (find (λ identity. identity.id == who) policy.policy.identities)
 
--- the pipeline with this id: the first that has it
-abbrev pub pipeline_of : PolicyData → ℕ → Checked Pipeline
-pipeline_of policy id = or_fault (NoSuchPipeline id) (find (λ pipeline. pipeline.id == id) policy.pipelines)
+-- the pipeline with this id
+abbrev pub pipeline_of : CheckedData → ℕ → Checked Pipeline
+pipeline_of policy id = or_fault (NoSuchPipeline id) (find (λ pipeline. pipeline.id == id) policy.policy.pipelines)
 
 -- nothing, where the identity has each needed right on the path; the refusal names the lowest that is missing
 abbrev pub rights_check : Identity → List ℕ → ℕ → Checked (Unit {0})
@@ -61,10 +65,14 @@ most_file = 16777216
 abbrev pub size_check : ℕ → Checked (Unit {0})
 size_check size = unless_fault (fault_if (nat_lt most_file size) (TooLarge (min size (2 ^ 64 - 1)))) tt
 
+-- nothing, where the quota of a path's region lets the files become others
+abbrev pub quota_check : CheckedData → FileMap → FileMap → List ℕ → Checked (Unit {0})
+quota_check policy old new path = unless_fault (quota_fault policy old new path) tt
+
 -- ---- what each call asks for
 
 -- the path of a name on which the caller has the needed rights
-abbrev pub path_for : PolicyData → ℕ → List ℕ → ℕ → Checked (List ℕ)
+abbrev pub path_for : CheckedData → ℕ → List ℕ → ℕ → Checked (List ℕ)
 path_for policy who name needed = do
   path ← path_named name  -- first, so that a bad name is told to callers without a key too
   identity ← identity_of policy who
@@ -77,26 +85,19 @@ body_for origin files who name = do
   path ← path_for origin.policy who name read_rights  -- before the file, so that nobody learns what he may not read
   body_at files path
 
--- the path at which a write keeps a body of this size
-abbrev pub write_path : Origin → ℕ → List ℕ → ℕ → Checked (List ℕ)
-write_path origin who name size = do
-  path ← path_for origin.policy who name write_rights
-  size_check size
-  Ok path
-
 -- the bytes at a path, none where there is no file
 abbrev pub bytes_at : FileMap → List ℕ → List ℕ
 bytes_at files path = unwrap_or (get files path) []
 
--- the path at which an append of this many bytes adds them
-abbrev pub append_path : Origin → FileMap → ℕ → List ℕ → ℕ → Checked (List ℕ)
-append_path origin files who name size = do
-  path ← path_for origin.policy who name append_rights
-  size_check (length (bytes_at files path) + size)  -- after the rights, since it tells the size of the file
-  Ok path
+-- the files with a body kept at a path, where its size and the quota of its region let that be
+abbrev pub files_with : Origin → FileMap → List ℕ → List ℕ → Checked FileMap
+files_with origin files path body = do
+  size_check (length body)
+  quota_check origin.policy files (insert files path body) path
+  Ok (insert files path body)
 
 -- the pipeline that the caller asks to run
-abbrev pub pipeline_for : PolicyData → ℕ → ℕ → Checked Pipeline
+abbrev pub pipeline_for : CheckedData → ℕ → ℕ → Checked Pipeline
 pipeline_for policy who id = do
   identity_of policy who
   pipeline_of policy id
@@ -118,11 +119,13 @@ granted_effect origin files who (calls.Read name) = do
   body ← body_for origin files who name
   Ok (effect (Read body) files)
 granted_effect origin files who (calls.Write name body) = do
-  path ← write_path origin who name (length body)
-  Ok (effect Stored (insert files path body))
-granted_effect origin files who (calls.Append name body) = do
-  path ← append_path origin files who name (length body)
-  Ok (effect Stored (insert files path (bytes_at files path ++ body)))
+  path ← path_for origin.policy who name write_rights
+  after ← files_with origin files path body
+  Ok (effect Stored after)
+granted_effect origin files who (calls.Append name piece) = do
+  path ← path_for origin.policy who name append_rights
+  after ← files_with origin files path (bytes_at files path ++ piece)
+  Ok (effect Stored after)
 granted_effect origin files who (calls.Run pipeline) = do
   pipeline_for origin.policy who pipeline
   Ok (effect Unavailable files)

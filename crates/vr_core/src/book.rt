@@ -1,42 +1,57 @@
-ghost use Rattle.std.specs.Prelude.{◌≡◌, [], ◌∷◌, ◌++◌, IfOk, OnErr, IsTrue, IsFalse};
+ghost use Rattle.std.specs.Prelude.{◌≡◌, ◌≢◌, ◌≤◌, ◌⊎◌, ℕ, [], ◌∷◌, ◌++◌, IfOk, IfErr, OnOk, OnErr, IsTrue, length, Some, Ok, Err};
 ghost use Rattle.std.specs.FinMap.{insert};
-ghost use Rattle.vr_base.specs.Checks.{value_of, result_map};
-ghost use Rattle.vr_core.specs.History.{IsBook, Makes, Opens, entry};
-ghost use Rattle.vr_core.specs.Machine.{step, effect, granted_effect, body_for, write_path, append_path, pipeline_for, bytes_at};
-ghost use Rattle.vr_core.specs.Plans.{plan_effect};
-ghost use Rattle.vr_core.specs.Replies.{Gives, is_made, has_memory};
+ghost use Rattle.std.specs.Result.{result_unwrap_or};
+ghost use Rattle.vr_base.specs.Causes.{HasCauseOf, Rose};
+ghost use Rattle.vr_base.specs.Checks.{value_of, result_map, result_map_err};
+ghost use Rattle.vr_core.specs.Crashes.{StepsSafely};
+ghost use Rattle.vr_core.specs.History.{IsBook, Opens, Steps, TellsAsBefore, entry, keeper_of};
+ghost use Rattle.vr_core.specs.Machine.{step, effect, granted_effect, body_for, path_for, files_with, pipeline_for, bytes_at};
+ghost use Rattle.vr_core.specs.Opening.{ComesFromRows};
+ghost use Rattle.vr_core.specs.Plans.{plan_effect, IsUnstored};
+ghost use Rattle.vr_core.specs.Replies.{Gives, IsUnkept, has_memory, is_made};
+ghost use Rattle.vr_keeper.specs.Crashes.{LoadKeepsCrashes};
 
 use crate::checks::{check_caller, check_file, check_path, check_pipeline, check_size};
-use crate::files::Files;
+use crate::opening::{Opening, StartFault, load};
+use crate::policy_files::{PolicyFiles, one_change, size_at};
 use std::alloc::Global;
 use std::marker::Model;
 use vr_base::{
     APPEND_RIGHTS, Bytes, Call, Entry, NoMemory, Path, READ_RIGHTS, Reply, WRITE_RIGHTS,
 };
-use vr_policy_read::{Pipeline, Policy};
+use vr_files::{FileBody, FileFault, Files};
+use vr_keeper::{KeepFault, Keeper};
+use vr_policy_check::CheckedPolicy;
+use vr_policy_read::Pipeline;
 
-/// The history of a runtime and the files after it. Contracts see where it began, the journal of its calls and the
-/// files; the journal is legal from the beginning on, and the files are those after it.
+/// The history of a runtime, the files after it, and the keeper that stores them. Contracts see where the history began,
+/// the journal of its calls, the files and the keeper. The journal is legal from the beginning on, and the files are those
+/// after it, which the keeper's rows are, where it tells them.
 #[derive(Debug, Drop)]
-pub struct Book {
-    policy: Policy,
+pub struct Book<K: Keeper> {
+    files: PolicyFiles,
     hash: [u8; 64],
-    files: Files,
+    fuel: u64,
+    /// The files with which the history began.
+    opening: Files,
     journal: Vec<Entry>,
+    keeper: K,
 }
 
-impl Model for Book {
+impl<K: Keeper> Model for Book<K> {
     ghost use Rattle.std.specs.Coded.{codes};
     ghost use Rattle.vr_core.specs.History.{BookState, IsBook, book_state};
-    ghost use Rattle.vr_core.specs.State.{coded_files};
+    ghost use Rattle.vr_files.specs.FileMaps.{coded_files};
+    ghost use Rattle.vr_pipe.specs.contracts.trees.Tree as trees;
 
-    ghost Value = { BookState };
+    ghost Value = { BookState K };
 
-    ghost coded = { Prim.hlevel (codes, coded_files) };
+    ghost coded = { Prim.hlevel (codes, coded_files, trees.the_row.coded, K.code) };
 
-    ghost view = { λ b. book_state b.policy b.hash b.journal.items b.files };
+    ghost view = { λ b. book_state b.files.policy b.hash b.fuel b.opening.map b.journal.items b.files.files.map b.keeper };
 
-    ghost invariant = { λ b. IsBook (book_state b.policy b.hash b.journal.items b.files) };
+    ghost invariant = { λ b. IsBook K.rows K.is_loaded
+        (book_state b.files.policy b.hash b.fuel b.opening.map b.journal.items b.files.files.map b.keeper) };
 }
 
 /// What is to be done for a call that its checks let pass. What needs memory for it was made already.
@@ -45,113 +60,181 @@ enum Plan {
     /// To answer, and to change no file.
     Answer(Reply),
     /// To keep a body at a path, which is answered as stored.
-    Store { path: Path, body: Bytes },
+    Store { path: Path, body: FileBody },
 }
 
-impl Book {
-    /// A book without calls and without files, under a policy and the hash of its file in hex digits.
-    pub fn start(alloc: Global, policy: Policy, hash: [u8; 64]) -> Book
-        ensures begins { Opens policy hash result }
-        ensures book { IsBook result }
+impl<K: Keeper> Book<K> {
+    /// A book without calls, over the files that the keeper loads from a store, under a policy with the hash of its
+    /// file, in 64 digits. All programs of a run may make as many steps together as there is fuel. After an error the
+    /// keeper comes back.
+    pub fn start(
+        alloc: Global,
+        policy: CheckedPolicy,
+        hash: [u8; 64],
+        keeper: K,
+        store: &[u8],
+        fuel: u64,
+    ) -> Result<Book<K>, (StartFault, K)>
+        ensures opens { IfOk result (Opens policy hash fuel (K.rows keeper)) }
+        ensures opening { IfOk result (λ book.
+            ComesFromRows (K.rows keeper) (Ok book.origin.opening)) }
+        ensures bad_row { IfErr result (λ refusal. (place : ℕ) → refusal.0 ≡ StartFault.BadRow place
+            → ComesFromRows (K.rows keeper) (Err (StartFault.BadRow place))) }
+        ensures cause { HasCauseOf StartFault.KeeperFailed
+            (K.faults keeper) (K.faults (keeper_of result))
+            (result_map_err (λ refusal. refusal.0) result) }
+        ensures rows { K.rows (keeper_of result) ≡ K.rows keeper }
+        ensures tells { K.tells_crashes (keeper_of result) ≡ K.tells_crashes keeper }
+        ensures crashes { IsTrue (K.tells_crashes keeper) →
+            LoadKeepsCrashes (K.clock keeper) (K.clock (keeper_of result))
+            (K.may_leave keeper) (K.may_leave (keeper_of result)) }
+        ensures book { IfOk result (IsBook K.rows K.is_loaded) }
     {
-        Book {
-            policy,
-            hash,
-            files: Files::new(alloc),
-            journal: Vec::new(alloc),
-        }
-    }
-
-    /// Makes a call of an identity, which came by a seat, and answers it. A call that is answered `OutOfMemory` or
-    /// `Unavailable` was not made, and changes nothing. Runs of listed pipelines are not made yet.
-    pub fn step(&mut self, seat: u32, who: u32, call: Call) -> Reply
-        ensures reply { IsTrue (has_memory result)
-            → step self.old.origin self.old.files who call ≡ effect result self.new.files }
-        ensures made { IsTrue (is_made result)
-            → self.new.journal ≡ self.old.journal ++ entry seat who call result ∷ [] }
-        ensures unmade { IsFalse (is_made result) → self.new ≡ self.old }
-        ensures origin { self.new.origin ≡ self.old.origin }
-        ensures book { IsBook self.new }
-    {
-        match self.make(seat, who, call) {
-            Ok(reply) => reply,
-            Err(NoMemory) => Reply::OutOfMemory,
+        let mut keeper = keeper;
+        match load(alloc, policy, &mut keeper, store) {
+            Ok(Opening { files, opening }) => Ok(Book {
+                files,
+                hash,
+                fuel,
+                opening,
+                journal: Vec::new(alloc),
+                keeper,
+            }),
+            Err(fault) => Err((fault, keeper)),
         }
     }
 
     /// The calls that were made, in order.
     pub fn journal(&self) -> &[Entry]
         ensures entries { result.now ≡ self.now.journal }
-        ensures book { IsBook self.now }
+        ensures book { IsBook K.rows K.is_loaded self.now }
     {
         self.journal.as_slice()
     }
 
     /// The files after the calls.
     pub fn files(&self) -> &Files
-        ensures files { result.now ≡ self.now.files }
-        ensures book { IsBook self.now }
+        ensures files { result.now.map ≡ self.now.files }
+        ensures book { IsBook K.rows K.is_loaded self.now }
     {
-        &self.files
+        self.files.files()
     }
 
-    pub fn policy(&self) -> &Policy
+    pub fn policy(&self) -> &CheckedPolicy
         ensures { result.now ≡ self.now.origin.policy }
     {
-        &self.policy
+        self.files.policy()
     }
 
-    /// Makes the call and adds its entry, or changes nothing.
-    fn make(&mut self, seat: u32, who: u32, call: Call) -> Result<Reply, NoMemory>
-        ensures ok { IfOk result (Makes self.old self.new seat who call) }
-        ensures err { OnErr result (self.new ≡ self.old) }
-        ensures book { IsBook self.new }
+    /// Ends the book, and gives the keeper back.
+    pub fn finish(self) -> K
+        ensures { result ≡ self.keeper }
+    {
+        self.keeper
+    }
+
+    /// Makes a call of an identity, which came by a seat, and answers it. A call that is answered `OutOfMemory` or
+    /// `Unavailable` was not made, and changes neither the journal nor the files. The keeper is asked at most once, when all
+    /// that needs memory is there. Runs of listed pipelines are not made yet, and are answered `Unavailable`.
+    pub fn step(&mut self, seat: u32, who: u32, call: Call) -> Reply
+        ensures steps { Steps self.old self.new seat who call result }
+        ensures faults { K.faults self.old.keeper ≤ K.faults self.new.keeper }
+        ensures cause { result ≡ Reply.Unavailable
+            → IsUnkept (step self.old.origin self.old.files who call) self.old.files
+            (K.faults self.old.keeper) (K.faults self.new.keeper) }
+        ensures tells { TellsAsBefore K.rows K.tells_crashes self.old.keeper self.new.keeper }
+        ensures crashes { IsTrue (K.tells_crashes self.old.keeper)
+            → StepsSafely (K.may_leave self.old.keeper) (K.may_leave self.new.keeper)
+            (K.clock self.old.keeper) (K.clock self.new.keeper) self.old.files
+            (step self.old.origin self.old.files who call).files self.new.files result }
+        ensures book { IsBook K.rows K.is_loaded self.new }
     {
         match self.plan(who, &call) {
-            Ok(Plan::Store { path, body }) => self.store(seat, who, call, path, body),
+            Ok(Plan::Store { path, body }) => {
+                let stored = self.store(seat, who, call, path, body);
+                stored.unwrap_or(Reply::OutOfMemory)
+            }
             Ok(Plan::Answer(reply)) => self.answer(seat, who, call, reply),
             Err(refusal) => self.answer(seat, who, call, refusal),
         }
     }
 
     /// Answers a call, which changes no file, and adds its entry where it was made.
-    fn answer(&mut self, seat: u32, who: u32, call: Call, reply: Reply) -> Result<Reply, NoMemory>
-        requires { IsTrue (has_memory reply)
+    fn answer(&mut self, seat: u32, who: u32, call: Call, reply: Reply) -> Reply
+        requires outcome { IsTrue (has_memory reply)
             → step self.old.origin self.old.files who call ≡ effect reply self.old.files }
-        ensures ok { IfOk result (Makes self.old self.new seat who call) }
-        ensures err { OnErr result (self.new ≡ self.old) }
-        ensures book { IsBook self.new }
+        requires book { IsBook K.rows K.is_loaded self.old }
+        ensures steps { Steps self.old self.new seat who call result }
+        ensures unasked { self.new.keeper ≡ self.old.keeper }
+        ensures answered { (result ≡ Reply.OutOfMemory) ⊎ (result ≡ reply) }
+        ensures book { IsBook K.rows K.is_loaded self.new }
     {
-        let journal = &mut self.journal;
-        if is_made(&reply) {
-            let kept = reply.copy()?;
-            journal.push(Entry {
-                seat,
-                who,
-                call,
-                reply: kept,
-            })?;
+        if !is_made(&reply) {
+            return reply;
         }
-        Ok(reply)
+        match self.record(seat, who, call, &reply) {
+            Ok(()) => reply,
+            Err(NoMemory) => Reply::OutOfMemory,
+        }
     }
 
-    /// Keeps a body at a path, and adds the entry of the call that asks for it.
+    /// Adds the entry of a call that was made and changed no file.
+    fn record(&mut self, seat: u32, who: u32, call: Call, reply: &Reply) -> Result<(), NoMemory>
+        requires outcome { step self.old.origin self.old.files who call ≡ effect reply.now self.old.files }
+        requires made { IsTrue (is_made reply.now) }
+        requires book { IsBook K.rows K.is_loaded self.old }
+        ensures ok { OnOk result
+            (self.new.journal ≡ self.old.journal ++ entry seat who call reply.now ∷ []) }
+        ensures err { OnErr result (self.new.journal ≡ self.old.journal) }
+        ensures origin { self.new.origin ≡ self.old.origin }
+        ensures files { self.new.files ≡ self.old.files }
+        ensures keeper { self.new.keeper ≡ self.old.keeper }
+        ensures book { IsBook K.rows K.is_loaded self.new }
+    {
+        let kept = reply.copy()?;
+        self.journal.push(Entry {
+            seat,
+            who,
+            call,
+            reply: kept,
+        })?;
+        Ok(())
+    }
+
+    /// Has a body kept at a path, by the keeper first, and adds the entry of the call that asks for it.
     fn store(
         &mut self,
         seat: u32,
         who: u32,
         call: Call,
         path: Path,
-        body: Bytes,
+        body: FileBody,
     ) -> Result<Reply, NoMemory>
         requires { step self.old.origin self.old.files who call
             ≡ effect Reply.Stored (insert self.old.files path body) }
-        ensures ok { IfOk result (Makes self.old self.new seat who call) }
-        ensures err { OnErr result (self.new ≡ self.old) }
-        ensures book { IsBook self.new }
+        ensures steps { Steps self.old self.new seat who call (result_unwrap_or result Reply.OutOfMemory) }
+        ensures faults { K.faults self.old.keeper ≤ K.faults self.new.keeper }
+        ensures cause { result ≡ Ok Reply.Unavailable
+            → Rose (K.faults self.old.keeper) (K.faults self.new.keeper) }
+        ensures tells { TellsAsBefore K.rows K.tells_crashes self.old.keeper self.new.keeper }
+        ensures crashes { IsTrue (K.tells_crashes self.old.keeper)
+            → StepsSafely (K.may_leave self.old.keeper) (K.may_leave self.new.keeper)
+            (K.clock self.old.keeper) (K.clock self.new.keeper) self.old.files
+            (step self.old.origin self.old.files who call).files self.new.files
+            (result_unwrap_or result Reply.OutOfMemory) }
+        ensures book { IsBook K.rows K.is_loaded self.new }
     {
+        let alloc = *self.journal.allocator();
+        let size = body.len() as usize;
+        let changes = one_change(alloc, &path, body)?;
         self.journal.reserve(1)?;
-        self.files.put(path, body)?;
+        self.files.reserve()?;
+        match self.keeper.apply(alloc, &changes) {
+            Ok(()) => {}
+            Err(KeepFault::Failed) => return Ok(Reply::Unavailable),
+            Err(KeepFault::OutOfMemory) => return Err(NoMemory),
+        }
+        self.files.keep(&path, size, changes);
         let entry = Entry {
             seat,
             who,
@@ -164,29 +247,25 @@ impl Book {
 
     /// What is to be done for the call, or the refusal of the first check that fails.
     fn plan(&self, who: u32, call: &Call) -> Result<Plan, Reply>
-        ensures { Gives (result_map (plan_effect self.now.files) result)
+        ensures plan { Gives (result_map (plan_effect self.now.files) result)
             (granted_effect self.now.origin self.now.files who call.now) }
+        ensures unstored { IfOk result IsUnstored }
+        ensures book { IsBook K.rows K.is_loaded self.now }
     {
         let alloc = *self.journal.allocator();
         match call {
             Call::Read { name } => {
                 let body = self.read(alloc, who, name.as_slice())?;
-                Ok(Plan::Answer(Reply::Read {
-                    body: body.copy().or(Err(Reply::OutOfMemory))?,
-                }))
+                Ok(Plan::Answer(Reply::Read { body }))
             }
             Call::Write { name, body } => {
-                let path = self.write(alloc, who, name.as_slice(), body.as_slice().len())?;
-                Ok(Plan::Store {
-                    path,
-                    body: body.copy().or(Err(Reply::OutOfMemory))?,
-                })
+                let path = check_path(alloc, self.policy(), who, name.as_slice(), WRITE_RIGHTS)?;
+                let body = self.written(alloc, &path, body.as_slice())?;
+                Ok(Plan::Store { path, body })
             }
             Call::Append { name, body } => {
-                let path = self.append(alloc, who, name.as_slice(), body.as_slice().len())?;
-                let body = self
-                    .extended(alloc, &path, body.as_slice())
-                    .or(Err(Reply::OutOfMemory))?;
+                let path = check_path(alloc, self.policy(), who, name.as_slice(), APPEND_RIGHTS)?;
+                let body = self.extended(alloc, &path, body.as_slice())?;
                 Ok(Plan::Store { path, body })
             }
             Call::Run { pipeline } => {
@@ -194,63 +273,64 @@ impl Book {
                 Ok(Plan::Answer(Reply::Unavailable))
             }
             Call::Hash => {
-                check_caller(&self.policy, who)?;
+                check_caller(self.policy(), who)?;
                 Ok(Plan::Answer(Reply::PolicyHash { digits: self.hash }))
             }
         }
     }
 
     /// The body that a read answers.
-    fn read(&self, alloc: Global, who: u32, name: &[u8]) -> Result<&Bytes, Reply>
-        ensures { Gives (value_of result) (body_for self.now.origin self.now.files who name.now) }
+    fn read(&self, alloc: Global, who: u32, name: &[u8]) -> Result<Bytes, Reply>
+        ensures { Gives result (body_for self.now.origin self.now.files who name.now) }
     {
-        let path = check_path(alloc, &self.policy, who, name, READ_RIGHTS)?;
-        check_file(&self.files, &path)
+        let path = check_path(alloc, self.policy(), who, name, READ_RIGHTS)?;
+        let body = check_file(self.files(), &path)?;
+        body.to_bytes().or(Err(Reply::OutOfMemory))
     }
 
-    /// The path at which a write keeps its body.
-    fn write(&self, alloc: Global, who: u32, name: &[u8], size: usize) -> Result<Path, Reply>
-        ensures { Gives result (write_path self.now.origin who name.now size) }
+    /// The body of a file that is written whole.
+    fn written(&self, alloc: Global, path: &Path, bytes: &[u8]) -> Result<FileBody, Reply>
+        ensures { Gives (result_map (insert self.now.files path.now) result)
+            (files_with self.now.origin self.now.files path.now bytes.now) }
     {
-        let path = check_path(alloc, &self.policy, who, name, WRITE_RIGHTS)?;
-        check_size(size)?;
-        Ok(path)
+        check_size(bytes.len())?;
+        self.files.check_quota(alloc, path, bytes.len())?;
+        FileBody::from_slice(alloc, bytes).or(Err(Reply::OutOfMemory))
     }
 
-    /// The path of the file to which an append adds.
-    fn append(&self, alloc: Global, who: u32, name: &[u8], size: usize) -> Result<Path, Reply>
-        ensures { Gives result (append_path self.now.origin self.now.files who name.now size) }
+    /// The body of a file with a piece at its end, which is the whole of it where there was no file.
+    fn extended(&self, alloc: Global, path: &Path, piece: &[u8]) -> Result<FileBody, Reply>
+        ensures { Gives (result_map (insert self.now.files path.now) result)
+            (files_with self.now.origin self.now.files path.now
+            (bytes_at self.now.files path.now ++ piece.now)) }
     {
-        let path = check_path(alloc, &self.policy, who, name, APPEND_RIGHTS)?;
-        check_size(self.bytes_at(&path).len().saturating_add(size))?;
-        Ok(path)
+        let size = size_at(self.files(), path) as usize;
+        check_size(size.saturating_add(piece.len()))?;
+        self.files.check_quota(alloc, path, size + piece.len())?;
+        self.joined(alloc, path, piece).or(Err(Reply::OutOfMemory))
+    }
+
+    /// The bytes at the path and the piece after them, which a file may have together.
+    fn joined(&self, alloc: Global, path: &Path, piece: &[u8]) -> Result<FileBody, FileFault>
+        requires { length (bytes_at self.now.files path.now ++ piece.now) ≤ 16777216 }
+        ensures { IfOk result (λ body. body ≡ bytes_at self.now.files path.now ++ piece.now) }
+    {
+        match self.files().get(path) {
+            Some(body) => {
+                let mut body = body.share()?;
+                body.append(piece)?;
+                Ok(body)
+            }
+            None => FileBody::from_slice(alloc, piece),
+        }
     }
 
     /// The pipeline that the caller asks to run.
     fn run(&self, who: u32, pipeline: u32) -> Result<&Pipeline, Reply>
         ensures { Gives (value_of result) (pipeline_for self.now.origin.policy who pipeline) }
     {
-        check_caller(&self.policy, who)?;
-        check_pipeline(&self.policy, pipeline)
-    }
-
-    /// The bytes at the path, none where there is no file.
-    fn bytes_at(&self, path: &Path) -> &[u8]
-        ensures { result.now ≡ bytes_at self.now.files path.now }
-    {
-        match self.files.get(path) {
-            Some(body) => body.as_slice(),
-            None => &[],
-        }
-    }
-
-    /// The bytes at the path, and the piece after them.
-    fn extended(&self, alloc: Global, path: &Path, piece: &[u8]) -> Result<Bytes, NoMemory>
-        ensures { IfOk result (λ body. body ≡ bytes_at self.now.files path.now ++ piece.now) }
-    {
-        let mut body = Bytes::from_slice(alloc, self.bytes_at(path))?;
-        body.push_slice(piece)?;
-        Ok(body)
+        check_caller(self.policy(), who)?;
+        check_pipeline(self.policy(), pipeline)
     }
 }
 

@@ -1,14 +1,13 @@
-ghost use Rattle.std.specs.Prelude.{◌≡◌, ◌==◌, find};
-ghost use Rattle.std.specs.Option.{option_copied};
 ghost use Rattle.vr_base.specs.Checks.{value_of};
 ghost use Rattle.vr_base.specs.Rights.{known_rights};
 ghost use Rattle.vr_core.specs.Machine.{path_named, identity_of, pipeline_of, rights_check, body_at, size_check, path_for};
 ghost use Rattle.vr_core.specs.Replies.{Gives};
 
-use crate::files::Files;
 use std::alloc::Global;
-use vr_base::{Bytes, NoMemory, Path, PathFault, Reply, RightsWord, parse_path};
-use vr_policy_read::{Identity, Pipeline, Policy};
+use vr_base::{NoMemory, Path, PathFault, Reply, RightsWord, parse_path};
+use vr_files::{FileBody, Files};
+use vr_policy_check::CheckedPolicy;
+use vr_policy_read::{Identity, Pipeline};
 
 /// The most bytes of a file.
 pub const MOST_FILE: usize = 16_777_216;
@@ -24,18 +23,12 @@ pub fn check_name(alloc: Global, name: &[u8]) -> Result<Path, Reply>
     }
 }
 
-fn find_identity(identities: &[Identity], who: u32) -> Option<&Identity>
-    ensures { option_copied result ≡ find (λ identity. identity.id == who) identities.now }
-{
-    identities.iter().find(|identity| identity.id == who)
-}
-
 /// The identity that calls.
-pub fn check_caller(policy: &Policy, who: u32) -> Result<&Identity, Reply>
+pub fn check_caller(policy: &CheckedPolicy, who: u32) -> Result<&Identity, Reply>
     ensures { Gives (value_of result) (identity_of policy.now who) }
 {
-    match find_identity(policy.identities.as_slice(), who) {
-        Some(identity) => Ok(identity),
+    match policy.identity_place(who) {
+        Some(place) => Ok(&policy.policy().identities.as_slice()[place as usize]),
         None => Err(Reply::Unkeyed),
     }
 }
@@ -56,7 +49,7 @@ pub fn check_rights(identity: &Identity, path: &Path, needed: RightsWord) -> Res
 /// The path of a call's name, on which the identity has the needed rights.
 pub fn check_path(
     alloc: Global,
-    policy: &Policy,
+    policy: &CheckedPolicy,
     who: u32,
     name: &[u8],
     needed: u32,
@@ -70,8 +63,8 @@ pub fn check_path(
 }
 
 /// The body of the file at the path.
-pub fn check_file<'a>(files: &'a Files, path: &Path) -> Result<&'a Bytes, Reply>
-    ensures { Gives (value_of result) (body_at files.now path.now) }
+pub fn check_file<'a>(files: &'a Files, path: &Path) -> Result<&'a FileBody, Reply>
+    ensures { Gives (value_of result) (body_at files.now.map path.now) }
 {
     match files.get(path) {
         Some(body) => Ok(body),
@@ -93,18 +86,12 @@ pub fn check_size(size: usize) -> Result<(), Reply>
     }
 }
 
-fn find_pipeline(pipelines: &[Pipeline], id: u32) -> Option<&Pipeline>
-    ensures { option_copied result ≡ find (λ pipeline. pipeline.id == id) pipelines.now }
-{
-    pipelines.iter().find(|pipeline| pipeline.id == id)
-}
-
 /// The pipeline with the id.
-pub fn check_pipeline(policy: &Policy, id: u32) -> Result<&Pipeline, Reply>
+pub fn check_pipeline(policy: &CheckedPolicy, id: u32) -> Result<&Pipeline, Reply>
     ensures { Gives (value_of result) (pipeline_of policy.now id) }
 {
-    match find_pipeline(policy.pipelines.as_slice(), id) {
-        Some(pipeline) => Ok(pipeline),
+    match policy.pipeline_place(id) {
+        Some(place) => Ok(&policy.policy().pipelines.as_slice()[place as usize]),
         None => Err(Reply::NoSuchPipeline { id }),
     }
 }

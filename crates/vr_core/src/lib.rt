@@ -3,7 +3,8 @@
 
 mod book;
 mod checks;
-mod files;
+mod opening;
+mod policy_files;
 
 pub use book::Book;
-pub use files::Files;
+pub use opening::StartFault;

@@ -1,4 +1,6 @@
+mod Pages
 pub mod Calls
 pub mod Contents
 pub mod Digits
+pub mod FileLines
 pub mod Parts

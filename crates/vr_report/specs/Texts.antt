@@ -11,7 +11,7 @@ use Rattle.vr_base.specs.declared.calls.Reply.{Reply}
 use Rattle.vr_base.specs.declared.calls.Reply.TheVariants.{Stored, Read, Ended, PolicyHash, NoSuchFile, Denied, NoSuchPipeline, PinMissing, PinMismatch, TooLarge, BadProgram, Trapped, OutOfFuel, BadPath, Unavailable, OutOfMemory, Unkeyed, QuotaReached}
 use Rattle.vr_base.specs.declared.calls.Why.{Why}
 use Rattle.vr_base.specs.declared.calls.Why.TheVariants.{Decode, Invalid, Link}
-use Rattle.vr_core.specs.State.{FileMap}
+use Rattle.vr_files.specs.FileMaps.{FileMap}
 use Rattle.vr_core.specs.Machine.{Origin, Replay, replay}
 use Rattle.vr_report.specs.Script.{calls_of}
 use Rattle.vr_report.specs.declared.script.Line.{Line}

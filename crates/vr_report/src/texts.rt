@@ -4,7 +4,7 @@ ghost use Rattle.vr_report.specs.Texts.{why_text, fault_text, reply_text, call_l
 use crate::writer::Writer;
 use std::alloc::Global;
 use vr_base::{Bytes, NoMemory, Path, PathFault, Reply, Why};
-use vr_core::Files;
+use vr_files::{FileBody, Files};
 
 /// Adds why a program is none.
 #[tactic(auto, using(std::proofs::Common::append_assoc))]
@@ -111,10 +111,9 @@ pub fn add_policy_line(text: Bytes, hash: &[u8; 64]) -> Result<Bytes, NoMemory>
 
 /// Adds the line of a file: its path, its size in bytes and its SHA-256.
 #[tactic(auto, using(std::proofs::Common::append_assoc))]
-fn write_file(text: Writer, path: &Path, body: &Bytes) -> Result<Writer, NoMemory>
+fn write_file(text: Writer, path: &Path, body: &FileBody) -> Result<Writer, NoMemory>
     ensures { IfOk result (λ written. written ≡ text ++ file_line (path.now, body.now)) }
 {
-    let body = body.as_slice();
     text.about(b"file", path)?
         .number(body.len())?
         .hash(body)?
@@ -123,7 +122,7 @@ fn write_file(text: Writer, path: &Path, body: &Bytes) -> Result<Writer, NoMemor
 
 /// The text with the line of a file: its path, its size in bytes and its SHA-256. Without memory for it the text is
 /// dropped.
-pub fn add_file_line(text: Bytes, path: &Path, body: &Bytes) -> Result<Bytes, NoMemory>
+pub fn add_file_line(text: Bytes, path: &Path, body: &FileBody) -> Result<Bytes, NoMemory>
     ensures { IfOk result (λ added. added ≡ text ++ file_line (path.now, body.now)) }
 {
     Ok(write_file(Writer::on(text), path, body)?.finish())
@@ -131,11 +130,13 @@ pub fn add_file_line(text: Bytes, path: &Path, body: &Bytes) -> Result<Bytes, No
 
 /// A line a file, in the byte order of their paths.
 pub fn file_text(alloc: Global, files: &Files) -> Result<Bytes, NoMemory>
-    ensures { IfOk result (λ text. text ≡ files_text files.now) }
+    ensures { IfOk result (λ text. text ≡ files_text files.now.map) }
 {
     let mut text = Writer::new(alloc);
-    for (path, body) in files.iter() {
-        text = write_file(text, path, body)?;
+    for place in 0..files.len() {
+        if let Some((path, body)) = files.entry(place) {
+            text = write_file(text, path, body)?;
+        }
     }
     Ok(text.finish())
 }

@@ -8,6 +8,7 @@ use sha2::{Digest, Sha256};
 use std::alloc::Global;
 use std::marker::Model;
 use vr_base::{Bytes, NoMemory, Path};
+use vr_files::{FileBody, PAGE};
 
 /// A text that is written piece by piece. Contracts see it as its bytes.
 #[derive(Drop)]
@@ -21,6 +22,19 @@ impl Model for Writer {
     ghost Value = { List ℕ };
 
     ghost view = { λ w. w.text.items };
+}
+
+/// The SHA-256 (FIPS 180-4) of a file's bytes, which are taken page by page and not copied together.
+fn digest_of(body: &FileBody) -> [u8; 32]
+    ensures { result ≡ sha256 body.now }
+{
+    let mut hasher = Sha256::new();
+    for place in 0..body.len().div_ceil(PAGE as u64) {
+        if let Some(page) = body.page(place) {
+            hasher.update(page);
+        }
+    }
+    hasher.finalize()
 }
 
 impl Writer {
@@ -106,11 +120,11 @@ impl Writer {
         }
     }
 
-    /// Adds a space and the SHA-256 (FIPS 180-4) of the bytes in lower-case hex digits.
-    pub fn hash(self, bytes: &[u8]) -> Result<Writer, NoMemory>
-        ensures { IfOk result (λ text. text ≡ self ++ word (encode_lower (sha256 bytes.now))) }
+    /// Adds a space and the SHA-256 (FIPS 180-4) of a file's bytes in lower-case hex digits.
+    pub fn hash(self, body: &FileBody) -> Result<Writer, NoMemory>
+        ensures { IfOk result (λ text. text ≡ self ++ word (encode_lower (sha256 body.now))) }
     {
-        let digest = Sha256::digest(bytes);
+        let digest = digest_of(body);
         self.bytes(b" ")?.hex(&digest)
     }
 

@@ -1,0 +1,25 @@
+-- Files under a policy, with the totals of its regions.
+use Rattle.std.specs.Prelude.{◌≡◌, ℕ, ◌≤◌, List, [], ◌∷◌, length, All, Some}
+use Rattle.std.specs.FinMap.{entries}
+use Rattle.vr_files.specs.Changes.{Change}
+use Rattle.vr_files.specs.FileMaps.{FileMap, FileTable}
+use Rattle.vr_policy_check.specs.Rules.{CheckedData}
+use Rattle.vr_rights.specs.Tables.{RegionsData, IsRegionsOf}
+use Rattle.vr_core.specs.Quotas.{AreTotals}
+
+-- a policy, and files under it
+pub record PolicyFilesData : Type 0 where
+  pub policy : CheckedData
+  pub files : FileTable
+
+-- What the files of a policy keep: its regions, their totals, and that no file is larger than one may be.
+pub record KeepsTotals (policy : CheckedData) (table : RegionsData) (files : FileMap) (sums : List ℕ) : Type 0 where
+  pub regions : IsRegionsOf policy table
+  pub totals : AreTotals policy table.names files sums
+  pub small : All (λ file. length file.1 ≤ 16777216) (entries files)
+
+-- The only change is to keep a body of this size at a path.
+pub record IsOneChange (path : List ℕ) (size : ℕ) (changes : List Change) : Type 0 where
+  pub body : List ℕ
+  pub only : changes ≡ (path, Some body) ∷ []
+  pub sized : length body ≡ size

@@ -1,0 +1,51 @@
+-- The sizes of files, and what the quota of a region lets pass.
+use Rattle.std.specs.Prelude.{ℕ, Bool, false, ◌&&◌, nat_lt, List, [], length, bytes_eq, sum_by, Option, option_and_then, if◌then◌else◌, slice_index_or, ◌≡◌, ◌<◌}
+use Rattle.std.specs.FinMap.{entries}
+use Rattle.std.specs.Option.{option_map_or}
+use Rattle.vr_base.specs.Checks.{fault_if}
+use Rattle.vr_base.specs.declared.calls.Reply.{Reply}
+use Rattle.vr_base.specs.declared.calls.Reply.TheVariants.{QuotaReached}
+use Rattle.vr_files.specs.FileMaps.{FileMap}
+use Rattle.vr_policy_check.specs.Rules.{CheckedData}
+use Rattle.vr_rights.specs.Quotas.{quota_of}
+use Rattle.vr_rights.specs.Regions.{region_of}
+use Rattle.vr_rights.specs.Tables.{names_of}
+
+-- what a file counts whose path has to pass a test: its size, or nothing
+abbrev pub size_where : (List ℕ → Bool) → List ℕ × List ℕ → ℕ
+size_where test file = if test file.0 then length file.1 else 0
+
+-- the sizes of the files at the paths that pass a test, together
+abbrev pub total_where : (List ℕ → Bool) → FileMap → ℕ
+total_where test files = sum_by (size_where test) (entries files)
+
+-- the region of a path under a policy, by its name
+abbrev pub region : CheckedData → List ℕ → Option (List ℕ)
+region policy path = region_of (names_of policy) path
+
+-- whether a path lies in the region of this name
+abbrev pub is_in : CheckedData → List ℕ → List ℕ → Bool
+is_in policy name path = option_map_or (bytes_eq name) (region policy path) false
+
+-- the sizes of the files of a region, together
+abbrev pub total_of : CheckedData → FileMap → List ℕ → ℕ
+total_of policy files name = total_where (is_in policy name) files
+
+-- a total passes a quota, and is more than it was
+abbrev pub is_over : ℕ → ℕ → ℕ → Bool
+is_over quota old new = nat_lt quota new && nat_lt old new
+
+-- the quota that files of a region would reach, where they become others
+abbrev pub region_fault : CheckedData → FileMap → FileMap → List ℕ → Option Reply
+region_fault policy old new name =
+    option_and_then (λ quota. fault_if (is_over quota (total_of policy old name) (total_of policy new name))
+    (QuotaReached name (total_of policy new name))) (quota_of name policy.policy.quotas)
+
+-- the quota that the region of a path would reach; a path without a region has none
+abbrev pub quota_fault : CheckedData → FileMap → FileMap → List ℕ → Option Reply
+quota_fault policy old new path = option_and_then (region_fault policy old new) (region policy path)
+
+-- The totals are those of the regions with these names, in their order.
+pub record AreTotals (policy : CheckedData) (names : List (List ℕ)) (files : FileMap) (totals : List ℕ) : Type 0 where
+  pub all : length totals ≡ length names
+  pub each : (place : ℕ) → place < length names → slice_index_or totals place 0 ≡ total_of policy files (slice_index_or names place [])
