@@ -1,8 +1,10 @@
 #!/usr/bin/env python3
-"""Writes the tables of crates/vr_wasm_tests/src/numbers.rt: integer instructions at the edges of their operands.
+"""Writes cases of crates/vr_wasm_cases, or their answers: integer instructions at the edges of their operands.
 
-    tests/numbers.py > /tmp/tables    # then put them in place of the three tables there, and run `rt fmt`
+    tests/numbers.py cases      # the lines `NAME: number OPCODE A B` of its file stdin
+    tests/numbers.py answers    # the same lines of its file stdout
 """
+import sys
 
 TWO = ["add", "sub", "mul", "div_s", "div_u", "rem_s", "rem_u", "and", "or", "xor", "shl", "shr_s", "shr_u", "rotl", "rotr"]
 COMPARE = ["eqz", "eq", "ne", "lt_s", "lt_u", "gt_s", "gt_u", "le_s", "le_u", "ge_s", "ge_u"]
@@ -72,32 +74,49 @@ def edges(bits):
             (0x89ABCDEF, bits + 1), (most, most), (7, most - 2), (most - 6, 3)]
 
 
-def main():
-    results, traps, ones = [], [], []
+def told(found):
+    """The result in hex, or the kind of the trap."""
+    try:
+        return "%x" % found()
+    except Trap as trap:
+        return "trap %d" % trap.kind
+
+
+def rows():
+    """The name, the opcode, the operands and the answer of each case; those that trap after the others on two operands."""
+    results, traps = [], []
     for bits, first in ((32, 0x6A), (64, 0x7C)):
         for op, name in enumerate(TWO, first):
             for a, b in edges(bits):
-                try:
-                    results.append((op, a, b, two(name, bits, a, b)))
-                except Trap as trap:
-                    traps.append((op, a, b, trap.kind))
+                answer = told(lambda: two(name, bits, a, b))
+                (traps if answer.startswith("trap") else results).append(("i%d.%s %x %x" % (bits, name, a, b), op, a, b, answer))
     for bits, first in ((32, 0x45), (64, 0x50)):
         for op, name in enumerate(COMPARE, first):
-            results += [(op, a, b, compare(name, bits, a, b)) for a, b in edges(bits)]
+            for a, b in edges(bits):
+                beside = "beside " if name == "eqz" else ""
+                results.append(("i%d.%s %x %s%x" % (bits, name, a, beside, b), op, a, b, "%x" % compare(name, bits, a, b)))
+    return results + traps + one_operand()
+
+
+def one_operand():
+    cases = []
     for bits, first in ((32, 0x67), (64, 0x79)):
         for op, name in enumerate(["clz", "ctz", "popcnt"], first):
-            ones += [(op, a, one(name, bits, a)) for a in (0, 1, 1 << (bits - 1), (1 << bits) - 1, 0x00F00F00, 1 << (bits - 2))]
+            for a in (0, 1, 1 << (bits - 1), (1 << bits) - 1, 0x00F00F00, 1 << (bits - 2)):
+                cases.append(("i%d.%s" % (bits, name), op, a, one(name, bits, a)))
     for bits, first, widths in ((32, 0xC0, (8, 16)), (64, 0xC2, (8, 16, 32))):
         for op, m in enumerate(widths, first):
-            values = (0, (1 << (m - 1)) - 1, 1 << (m - 1), (1 << m) - 1, 1 << m, (1 << bits) - 1, 128)
-            ones += [(op, a, one(m, bits, a)) for a in values]
+            for a in (0, (1 << (m - 1)) - 1, 1 << (m - 1), (1 << m) - 1, 1 << m, (1 << bits) - 1, 128):
+                cases.append(("i%d.extend%d_s" % (bits, m), op, a, one(m, bits, a)))
     for a in (0, (1 << 31) - 1, 1 << 31, (1 << 32) - 1, 1 << 32, (1 << 64) - 1, 1 << 63):
         low = a % (1 << 32)
-        ones += [(0xA7, a, low), (0xAC, low, signed(32, low) % (1 << 64)), (0xAD, low, low)]
-    for table in (results, traps, ones):
-        for row in table:
-            print("    (%s)," % ", ".join(hex(n) for n in row))
-        print()
+        cases += [("i32.wrap_i64", 0xA7, a, low), ("i64.extend_i32_s", 0xAC, low, signed(32, low) % (1 << 64)), ("i64.extend_i32_u", 0xAD, low, low)]
+    return [("%s %x" % (name, a), op, a, 0, "%x" % found) for name, op, a, found in cases]
+
+
+def main():
+    for name, op, a, b, answer in rows():
+        print("%s: number %02x %x %x" % (name, op, a, b) if sys.argv[1] == "cases" else "%s: %s" % (name, answer))
 
 
 main()
