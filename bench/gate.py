@@ -8,7 +8,8 @@ for line in open(sys.argv[1]):
         below[name.split()[0]] = deps.split()
 
 began = time.monotonic()
-proved, edits, kept = {}, {}, set()
+proved, tested, edits, kept = {}, {}, {}, set()
+told = None
 last = ""
 for line in sys.stdin:
     now = time.monotonic() - began
@@ -18,15 +19,19 @@ for line in sys.stdin:
         proved[found[1]] = now
     elif found := re.match(r"rt: (\w+) (proved|NOT PROVED)", line):
         proved[found[1]] = now
-    elif found := re.match(r"rt: (\w+): trying its must-fail edits", line):
-        edits[found[1]] = [now, now]
-    elif found := re.match(r"rt: must-fail (\w+)/", line):
-        if found[1] in edits:
-            edits[found[1]][1] = now
+    elif found := re.match(r"rt: (\w+): its tests are (proved|NOT PROVED)", line):
+        tested[found[1]] = now
+    elif found := re.match(r"rt: (\w+): trying its must-fail edits \((\d+)\)", line):
+        edits[found[1]] = found[2]
+    elif line.startswith("rt: must-fail ") and told is None:
+        told = now
 
 for name in sorted(proved, key=proved.get):
     start = max((proved[lib] for lib in below.get(name, []) if lib in proved), default=0)
-    tried = edits.get(name, [0, 0])
     proof = "kept" if name in kept else f"{proved[name] - start:.0f} s"
-    print(f"{name}: proof {proof}, edits {tried[1] - tried[0]:.0f} s")
+    tests = f", its tests {tested[name] - start:.0f} s" if name in tested else ""
+    tried = f", {edits[name]} edits" if name in edits else ""
+    print(f"{name}: proof {proof}{tests}{tried}")
+if told is not None:
+    print(f"edits: all tried after {told:.0f} s, since the last proof {told - max(proved.values()):.0f} s")
 print(f"all: {time.monotonic() - began:.0f} s; {last}")

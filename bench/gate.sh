@@ -1,7 +1,7 @@
 #!/bin/sh
-# Runs `rt ci` with the words given here and prints, by the moments at which its own lines came, the seconds of each crate: of
-# its proof, from when the last crate below it was proved, and of its must-fail edits. Crates run side by side, so the
-# sum is more than the whole.
+# Runs `rt ci` with the words given here and prints, by the moments at which its own lines came, the seconds of each crate's
+# proof and tests, from when the last crate below it was proved. Crates run side by side, so the sum is more than the
+# whole. What comes of edits is told only once all are tried, so they have no seconds by crate.
 #   bench/gate.sh [--anew] [NAME..]
 set -eu
 cd "$(dirname "$0")/.."
