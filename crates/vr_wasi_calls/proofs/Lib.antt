@@ -1,0 +1,10 @@
+pub mod BodyLemmas
+pub mod FunctionLemmas
+pub mod MemoryLemmas
+pub mod PieceLemmas
+pub mod ReadLemmas
+pub mod RightsLemmas
+pub mod RunLemmas
+pub mod StreamLemmas
+pub mod TypeLemmas
+pub mod WorldLemmas

@@ -1,0 +1,9 @@
+pub mod Calls
+pub mod Checks
+pub mod Descriptors
+pub mod Errnos
+pub mod Functions
+pub mod Paths
+pub mod Pieces
+pub mod Replies
+pub mod Worlds
