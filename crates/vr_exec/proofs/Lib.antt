@@ -1,0 +1,15 @@
+pub mod BaseLemmas
+pub mod ComeLemmas
+pub mod DifferLemmas
+pub mod IsolationLemmas
+pub mod ListLemmas
+pub mod LoadLemmas
+pub mod ObserveLemmas
+pub mod OnceLemmas
+pub mod Pages
+pub mod PathLemmas
+pub mod ProgramLemmas
+pub mod RunLemmas
+pub mod SightLemmas
+pub mod StartLemmas
+pub mod TwinLemmas
