@@ -1,0 +1,8 @@
+pub mod ClosingLemmas
+pub mod LoopLemmas
+pub mod NameLemmas
+pub mod PlaceLemmas
+pub mod PolicyLemmas
+pub mod ReachLemmas
+pub mod SetLemmas
+pub mod TableLemmas
