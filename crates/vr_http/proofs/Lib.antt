@@ -1,0 +1,10 @@
+pub mod FieldLemmas
+pub mod GatherLemmas
+pub mod HeadLemmas
+pub mod ReadLemmas
+pub mod RequestLemmas
+pub mod ResponseLemmas
+pub mod SearchLemmas
+pub mod TakeLemmas
+pub mod UniqueLemmas
+pub mod WindowLemmas

@@ -1,0 +1,4 @@
+pub mod Links
+pub mod Listeners
+pub mod Moving
+pub mod Sources
