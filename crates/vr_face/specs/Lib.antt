@@ -1,0 +1,10 @@
+pub mod Answers
+pub mod Asks
+pub mod Holders
+pub mod Keys
+pub mod Lines
+pub mod Numerals
+pub mod Refusals
+pub mod Resources
+pub mod Table
+pub mod Targets

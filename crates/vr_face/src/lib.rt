@@ -1,0 +1,19 @@
+//! The face of the server over any desk: who holds which key, what a request asks for, and what it
+//! is answered.
+#![tactic(auto)]
+
+mod answers;
+mod asks;
+mod keys;
+mod lines;
+mod numerals;
+mod refusals;
+mod responding;
+mod targets;
+mod writer;
+
+pub use answers::{Answer, Methods};
+pub use asks::{Ask, AskFault, read_ask};
+pub use keys::{Keys, KeysFault, read_keys};
+pub use responding::{Manner, manner_of, respond};
+pub use targets::{Target, read_target, routes, target_of};
