@@ -19,7 +19,7 @@ def steps(path):
 def starting(path):
     """The time until the first step, without the start of the process: the module's reading, and the machine's making."""
     many = 1000
-    return (best(program, ["--fuel=0"] + [path] * many, runs) - best(program, ["--fuel=0"], runs)) / many
+    return (best(program, ["--fuel=0"] + [path] * many, runs).seconds - best(program, ["--fuel=0"], runs).seconds) / many
 
 
 wabt = shutil.which("wasm-interp")
@@ -27,8 +27,8 @@ if not wabt:
     print("wasm-interp is not installed (apt-get install wabt), so there is nothing to compare with")
 for name in PROGRAMS:
     path = os.path.join("bench", "programs", name + ".wasm")
-    count, took, start = steps(path), best(program, [FUEL, path], runs), starting(path)
+    count, took, start = steps(path), best(program, [FUEL, path], runs).seconds, starting(path)
     line = f"{name}: {count / 1e6:.1f} million steps in {took:.2f} s, {count / took / 1e6:.0f} million a second; a start takes {start * 1e6:.0f} microseconds"
     if wabt:
-        line += f"; {best(wabt, ['--run-all-exports', path], runs) / took:.2f} times as fast as wasm-interp"
+        line += f"; {best(wabt, ['--run-all-exports', path], runs).seconds / took:.2f} times as fast as wasm-interp"
     print(line)

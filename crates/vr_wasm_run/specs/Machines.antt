@@ -72,6 +72,15 @@ pub record Steps {H W : Type 0} (world : H → W) (stops : H → ℕ) (reply : R
   pub counted : stops m.host ≤ stops m'.host
   pub stopped : progress ≡ Stopped → Rose (stops m.host) (stops m'.host)
 
+-- no row came, but where nothing was left a function of the module's own may have been entered
+pub record Begins {H W : Type 0} (world : H → W) (reply : Replies W)
+    (m m' : Running H) : Type 0 where
+  pub same : next (program_of reply m') (config world m')
+      ≡ next (program_of reply m) (config world m)
+  pub program : program_of reply m' ≡ program_of reply m
+  pub host : m'.host ≡ m.host
+  pub inside : m'.state.stacks.code ≡ [] → m'.state.stacks.layers ≢ []
+
 -- each function can be called, and the program is never lost
 pub record IsFit {H W : Type 0} (finds : Finds) (world : H → W) (reply : Replies W)
     (m : Running H) : Type 0 where

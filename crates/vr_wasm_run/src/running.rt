@@ -2,11 +2,12 @@
 
 ghost use Rattle.std.specs.Prelude.{◌≡◌, ◌≢◌, ◌↔◌, ◌==◌, ◌++◌, [], IsTrue, None, Some};
 ghost use Rattle.std.specs.Prelude.{if◌then◌else◌, option_to_list, slice_get, unwrap_or};
+ghost use Rattle.std.specs.Prelude.{IfNone, IfSome};
 ghost use Rattle.vr_wasm_ast.specs.Instructions.{instruction_of};
 ghost use Rattle.vr_wasm_ast.specs.declared.instr.Instr.TheVariants as tree;
 ghost use Rattle.vr_wasm_steps.specs.Rows.{arity, next, over, type_of};
 ghost use Rattle.vr_wasm_link.specs.Functions.{function_of};
-ghost use Rattle.vr_wasm_run.specs.Machines.{IsLive, Stands, StandsAtEnd, Steps};
+ghost use Rattle.vr_wasm_run.specs.Machines.{Begins, IsLive, Stands, StandsAtEnd, Steps};
 ghost use Rattle.vr_wasm_run.specs.Machines.{config, program_of, waiting};
 ghost use Rattle.vr_wasm_stacks.specs.Positions.{IsRooted};
 ghost use Rattle.vr_wasm_run.specs.Calls.{AreCallable};
@@ -207,9 +208,10 @@ impl<'m, H: Host> Running<'m, H> {
         Progress::Went(1)
     }
 
-    /// The instruction that comes next, which these follow.
-    fn instruction(&mut self, instr: &'m Instr, rest: &'m [Instr]) -> Progress
+    /// An instruction that leaves its sequence.
+    fn leap(&mut self, instr: &'m Instr, rest: &'m [Instr]) -> Progress
         requires stands { Stands H.world H.reply self.old instr.now rest.now }
+        requires leaps { IsPlain (instruction_of instr.now) → ⊥ }
         requires callable { AreCallable H.finds (program_of H.reply self.old).functions }
         ensures { Steps H.world H.stops H.reply self.old result self.new }
     {
@@ -227,13 +229,75 @@ impl<'m, H: Host> Running<'m, H> {
             Instr::Return => self.leave_function(instr, rest),
             Instr::Call(at) => self.call(instr, rest, *at),
             Instr::CallIndirect(wanted) => self.call_indirect(instr, rest, *wanted),
-            _ => self.plain(instr, rest),
+            _ => unreachable!(),
+        }
+    }
+
+    /// The instruction that comes next, which these follow.
+    fn instruction(&mut self, instr: &'m Instr, rest: &'m [Instr]) -> Progress
+        requires stands { Stands H.world H.reply self.old instr.now rest.now }
+        requires callable { AreCallable H.finds (program_of H.reply self.old).functions }
+        ensures { Steps H.world H.stops H.reply self.old result self.new }
+    {
+        if is_plain(instr) {
+            self.plain(instr, rest)
+        } else {
+            self.leap(instr, rest)
+        }
+    }
+
+    /// Calls the next function from outside, where nothing is left of the one before. One of the
+    /// module's own is only entered.
+    fn outside(&mut self) -> Option<Progress>
+        requires outside { self.old.state.stacks.layers ≡ [] }
+        requires ended { self.old.state.stacks.code ≡ [] }
+        requires rooted { IsRooted self.old.state.stacks.layers self.old.state.stacks.locals }
+        requires live { IsLive H.finds H.world H.reply self.old }
+        ensures stepped { IfSome result (λ progress.
+            Steps H.world H.stops H.reply self.old progress self.new) }
+        ensures begun { IfNone result (Begins H.world H.reply self.old self.new) }
+    {
+        let at = match take_waiting(&mut self.first, &mut self.main) {
+            Some(at) => at,
+            None => return Some(Progress::Over),
+        };
+        let callee = self.functions[at as usize];
+        match callee {
+            Callee::Own { sort, locals, body } => {
+                enter_outside(&mut self.state.stacks, sort, locals, body);
+                None
+            }
+            Callee::Outside { .. } => {
+                let rest: &'m [Instr] = &[];
+                self.state.stacks.clear();
+                Some(invoke(&mut self.host, &mut self.state, callee, rest))
+            }
+        }
+    }
+
+    /// Enters the next function from outside, where nothing is left of the one before: the step
+    /// that this came to, or `None` where it is still to come.
+    fn begin(&mut self) -> Option<Progress>
+        requires live { IsLive H.finds H.world H.reply self.old }
+        ensures stepped { IfSome result (λ progress.
+            Steps H.world H.stops H.reply self.old progress self.new) }
+        ensures begun { IfNone result (Begins H.world H.reply self.old self.new) }
+    {
+        match self.state.stacks.code() {
+            [] => {
+                if self.state.stacks.is_outside() {
+                    self.outside()
+                } else {
+                    None
+                }
+            }
+            _ => None,
         }
     }
 
     /// The instruction that comes next, or the end of the block or the function.
     fn inside(&mut self) -> Progress
-        requires inside { self.old.state.stacks.layers ≢ [] }
+        requires inside { self.old.state.stacks.code ≡ [] → self.old.state.stacks.layers ≢ [] }
         requires live { IsLive H.finds H.world H.reply self.old }
         ensures { Steps H.world H.stops H.reply self.old result self.new }
     {
@@ -243,46 +307,15 @@ impl<'m, H: Host> Running<'m, H> {
         }
     }
 
-    /// Calls the next function from outside, where nothing is left of the one before.
-    fn outside(&mut self) -> Progress
-        requires outside { self.old.state.stacks.layers ≡ [] }
-        requires ended { self.old.state.stacks.code ≡ [] }
-        requires rooted { IsRooted self.old.state.stacks.layers self.old.state.stacks.locals }
-        requires live { IsLive H.finds H.world H.reply self.old }
-        ensures { Steps H.world H.stops H.reply self.old result self.new }
-    {
-        let at = match take_waiting(&mut self.first, &mut self.main) {
-            Some(at) => at,
-            None => return Progress::Over,
-        };
-        let callee = self.functions[at as usize];
-        match callee {
-            Callee::Own { sort, locals, body } => {
-                enter_outside(&mut self.state.stacks, sort, locals, body);
-                self.inside()
-            }
-            Callee::Outside { .. } => {
-                let rest: &'m [Instr] = &[];
-                self.state.stacks.clear();
-                invoke(&mut self.host, &mut self.state, callee, rest)
-            }
-        }
-    }
-
-    /// One step.
+    /// One step. An instruction is carried out at one place alone: so the compiler makes it a part of
+    /// the loop over the steps, and its result needs no place in memory.
     pub fn step(&mut self) -> Progress
         requires { IsLive H.finds H.world H.reply self.old }
         ensures { Steps H.world H.stops H.reply self.old result self.new }
     {
-        match self.state.stacks.code() {
-            [instr, rest @ ..] => self.instruction(instr, rest),
-            [] => {
-                if self.state.stacks.is_outside() {
-                    self.outside()
-                } else {
-                    self.leave()
-                }
-            }
+        match self.begin() {
+            Some(progress) => progress,
+            None => self.inside(),
         }
     }
 
@@ -344,6 +377,18 @@ fn is_none_waiting(first: Option<u32>, main: Option<u32>) -> bool
     ensures { IsTrue result ↔ (waiting first main ≡ []) }
 {
     first.is_none() && main.is_none()
+}
+
+/// Whether the instruction stays in its sequence.
+fn is_plain(instr: &Instr) -> bool
+    ensures { IsTrue result ↔ IsPlain (instruction_of instr.now) }
+{
+    match instr {
+        Instr::Block(..) | Instr::Loop(..) | Instr::If(..) => false,
+        Instr::Br(..) | Instr::BrIf(..) | Instr::BrTable(..) => false,
+        Instr::Return | Instr::Call(..) | Instr::CallIndirect(..) => false,
+        _ => true,
+    }
 }
 
 /// How many results a block of this type has.

@@ -198,7 +198,66 @@ impl<'m> State<'m> {
         Ok(1)
     }
 
+    /// The opcodes that programs have most come one by one, with their number, so that the compiler
+    /// knows in each arm which operation it is.
     fn numeric(&mut self, op: u8) -> Result<u64, Trap>
+        requires { Ready self.old (numeric op) }
+        ensures { Makes self.old (effect_of self.old (numeric op)) result self.new }
+    {
+        match op {
+            0x45 => self.test(0x45, ValType::I32),
+            0x46 => self.comparison(0x46, ValType::I32),
+            0x47 => self.comparison(0x47, ValType::I32),
+            0x48 => self.comparison(0x48, ValType::I32),
+            0x49 => self.comparison(0x49, ValType::I32),
+            0x4a => self.comparison(0x4a, ValType::I32),
+            0x4b => self.comparison(0x4b, ValType::I32),
+            0x4c => self.comparison(0x4c, ValType::I32),
+            0x4d => self.comparison(0x4d, ValType::I32),
+            0x4e => self.comparison(0x4e, ValType::I32),
+            0x4f => self.comparison(0x4f, ValType::I32),
+            0x50 => self.test(0x50, ValType::I64),
+            0x51 => self.comparison(0x51, ValType::I64),
+            0x52 => self.comparison(0x52, ValType::I64),
+            0x53 => self.comparison(0x53, ValType::I64),
+            0x54 => self.comparison(0x54, ValType::I64),
+            0x55 => self.comparison(0x55, ValType::I64),
+            0x56 => self.comparison(0x56, ValType::I64),
+            0x57 => self.comparison(0x57, ValType::I64),
+            0x58 => self.comparison(0x58, ValType::I64),
+            0x59 => self.comparison(0x59, ValType::I64),
+            0x5a => self.comparison(0x5a, ValType::I64),
+            0x6a => self.binary(0x6a, ValType::I32),
+            0x6b => self.binary(0x6b, ValType::I32),
+            0x6c => self.binary(0x6c, ValType::I32),
+            0x71 => self.binary(0x71, ValType::I32),
+            0x72 => self.binary(0x72, ValType::I32),
+            0x73 => self.binary(0x73, ValType::I32),
+            0x74 => self.binary(0x74, ValType::I32),
+            0x75 => self.binary(0x75, ValType::I32),
+            0x76 => self.binary(0x76, ValType::I32),
+            0x77 => self.binary(0x77, ValType::I32),
+            0x78 => self.binary(0x78, ValType::I32),
+            0x7c => self.binary(0x7c, ValType::I64),
+            0x7d => self.binary(0x7d, ValType::I64),
+            0x7e => self.binary(0x7e, ValType::I64),
+            0x83 => self.binary(0x83, ValType::I64),
+            0x84 => self.binary(0x84, ValType::I64),
+            0x85 => self.binary(0x85, ValType::I64),
+            0x86 => self.binary(0x86, ValType::I64),
+            0x87 => self.binary(0x87, ValType::I64),
+            0x88 => self.binary(0x88, ValType::I64),
+            0x89 => self.binary(0x89, ValType::I64),
+            0x8a => self.binary(0x8a, ValType::I64),
+            0xa7 => self.conversion(0xa7),
+            0xac => self.conversion(0xac),
+            0xad => self.conversion(0xad),
+            _ => self.numeric_of_family(op),
+        }
+    }
+
+    /// An instruction on integers of any opcode.
+    fn numeric_of_family(&mut self, op: u8) -> Result<u64, Trap>
         requires { Ready self.old (numeric op) }
         ensures { Makes self.old (effect_of self.old (numeric op)) result self.new }
     {
@@ -280,7 +339,22 @@ impl<'m> State<'m> {
         Ok(1)
     }
 
+    /// The opcodes that programs have most come one by one here too.
     fn load(&mut self, op: u8, exponent: u32, offset: u32) -> Result<u64, Trap>
+        requires { Ready self.old (load op exponent offset) }
+        ensures { Makes self.old (effect_of self.old (load op exponent offset)) result self.new }
+    {
+        match op {
+            0x28 => self.read(0x28, exponent, offset),
+            0x29 => self.read(0x29, exponent, offset),
+            0x2c => self.read(0x2c, exponent, offset),
+            0x2d => self.read(0x2d, exponent, offset),
+            0x2f => self.read(0x2f, exponent, offset),
+            _ => self.read(op, exponent, offset),
+        }
+    }
+
+    fn read(&mut self, op: u8, exponent: u32, offset: u32) -> Result<u64, Trap>
         requires { Ready self.old (load op exponent offset) }
         ensures { Makes self.old (effect_of self.old (load op exponent offset)) result self.new }
     {
@@ -298,6 +372,19 @@ impl<'m> State<'m> {
     }
 
     fn store(&mut self, op: u8, exponent: u32, offset: u32) -> Result<u64, Trap>
+        requires { Ready self.old (store op exponent offset) }
+        ensures { Makes self.old (effect_of self.old (store op exponent offset)) result self.new }
+    {
+        match op {
+            0x36 => self.write(0x36, exponent, offset),
+            0x37 => self.write(0x37, exponent, offset),
+            0x3a => self.write(0x3a, exponent, offset),
+            0x3b => self.write(0x3b, exponent, offset),
+            _ => self.write(op, exponent, offset),
+        }
+    }
+
+    fn write(&mut self, op: u8, exponent: u32, offset: u32) -> Result<u64, Trap>
         requires { Ready self.old (store op exponent offset) }
         ensures { Makes self.old (effect_of self.old (store op exponent offset)) result self.new }
     {

@@ -1,8 +1,9 @@
 -- The operands and the locals in the list of values.
-use Rattle.std.proofs.Common.{ℕ, ◌+◌, ◌-◌, ◌≡◌, ◌≤◌, ◌<◌, List, [], ◌∷◌, length, take, drop, reverse, get_or, set, slice_get, Some, refl, ap, sym, ◌∙◌, subst, arith}
-use Rattle.std.proofs.lemmas.List.{length-take-le, length-drop, length-reverse, length-set, reverse-append, reverse-reverse, take-append-drop, take_at, drop_at, drop-drop, take-take, drop-take, get_or-take, get_or-drop, drop-set-lt, drop-set-add, take-set-le}
+use Rattle.std.proofs.Common.{ℕ, ◌+◌, ◌-◌, ◌≡◌, ◌≤◌, ◌<◌, List, [], ◌∷◌, ◌++◌, length, take, drop, reverse, get_or, set, slice_get, Some, refl, ap, sym, ◌∙◌, subst, arith}
+use Rattle.std.proofs.lemmas.List.{length-take-le, length-drop, length-reverse, length-set, reverse-append, reverse-reverse, take-append-drop, take_at, drop_at, drop-drop, take-take, drop-take, get_or-take, get_or-drop, drop-set-lt, drop-set-add, take-set-le, take_more}
 use Rattle.std.proofs.lemmas.Option.{slice_get_read}
-use Rattle.std.proofs.Math.Seq.{take-set-lt}
+use Rattle.std.proofs.Math.Seq.{take-set-lt, take-length}
+use Rattle.std.specs.List.{swap_remove}
 use Rattle.vr_wasm_ast.specs.declared.instr.Instr.{Instr}
 use Rattle.vr_wasm_stacks.specs.declared.control.Control.{Control}
 use Rattle.vr_wasm_stacks.specs.declared.control.Control.TheVariants.{Block, Call}
@@ -151,3 +152,14 @@ rooted (Call n rest b h place outer ∷ es) st = rooted es (take b st)
 
 pub rooted_at : (z : Position) (es : List Control) (st : List ℕ) (code : List Instr) → position es st code ≡ z → IsRooted z.layers z.locals
 rooted_at z es st code e = let P : Position → Type 0 = λ x. IsRooted x.layers x.locals in subst P e (rooted es st)
+
+-- ---- the last value
+
+-- a list is what is left after its last element was taken out, and that
+pub last_removed : (xs : List ℕ) (n v : ℕ) → n ≡ length xs - 1 → 0 < length xs → v ≡ get_or xs n v → xs ≡ swap_remove xs n v ++ v ∷ []
+last_removed xs n v e some is =
+    sym (take-length xs)
+    ∙ ap (λ k. take k xs) (omega arith)
+    ∙ take_more xs (length xs - 1) v (omega arith)
+    ∙ ap (λ x. take (length xs - 1) xs ++ x ∷ []) (ap (λ k. get_or xs k v) (sym e) ∙ sym is)
+    ∙ ap (λ x. x ++ v ∷ []) (sym (take-set-le (length xs - 1) xs n (get_or xs (length xs - 1) v) (omega arith)))

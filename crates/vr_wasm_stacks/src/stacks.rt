@@ -115,7 +115,7 @@ impl<'m> Stacks<'m> {
         requires { slots_of (term_of self.old) < MAX_SLOTS }
         ensures { self.new ≡ with_operands self.old (value ∷ self.old.operands) }
     {
-        self.values.push(value).unwrap();
+        self.values.push_reserved(value);
     }
 
     pub fn pop(&mut self) -> u64
@@ -123,7 +123,8 @@ impl<'m> Stacks<'m> {
         ensures value { self.old ≡ with_operands self.new (result ∷ self.new.operands) }
         ensures slots { slots_of (term_of self.old) ≡ slots_of (term_of self.new) + 1 }
     {
-        self.values.pop().unwrap()
+        let last = self.values.len() - 1;
+        self.values.swap_remove(last)
     }
 
     /// A local of the innermost function.
@@ -165,14 +166,12 @@ impl<'m> Stacks<'m> {
         ensures { self.new ≡ entered self.old results [] rest.now body.now }
     {
         let height = self.values.len() as u32;
-        self.controls
-            .push(Control::Block {
-                results,
-                target: rest,
-                rest,
-                height,
-            })
-            .unwrap();
+        self.controls.push_reserved(Control::Block {
+            results,
+            target: rest,
+            rest,
+            height,
+        });
         self.code = body;
     }
 
@@ -183,14 +182,12 @@ impl<'m> Stacks<'m> {
         ensures { self.new ≡ entered self.old 0 (take 1 self.old.code) rest.now body.now }
     {
         let height = self.values.len() as u32;
-        self.controls
-            .push(Control::Block {
-                results: 0,
-                target: self.code,
-                rest,
-                height,
-            })
-            .unwrap();
+        self.controls.push_reserved(Control::Block {
+            results: 0,
+            target: self.code,
+            rest,
+            height,
+        });
         self.code = body;
     }
 
@@ -213,16 +210,14 @@ impl<'m> Stacks<'m> {
         push_zeros(&mut self.values, locals as usize);
         let height = self.values.len() as u32;
         let frame = self.controls.len() as u32;
-        self.controls
-            .push(Control::Call {
-                results,
-                rest,
-                base,
-                height,
-                caller: self.frame,
-                caller_base: self.base,
-            })
-            .unwrap();
+        self.controls.push_reserved(Control::Call {
+            results,
+            rest,
+            base,
+            height,
+            caller: self.frame,
+            caller_base: self.base,
+        });
         self.frames += 1;
         self.frame = frame;
         self.base = base;
@@ -301,6 +296,21 @@ fn push_zeros(values: &mut Vec<u64>, count: usize)
 
 /// Keeps the first values up to the base, and the last ones.
 fn keep(values: &mut Vec<u64>, base: usize, count: usize)
+    requires { base + count ≤ length values.old.items }
+    ensures items { values.new.items
+        ≡ take base values.old.items ++ drop (length values.old.items - count) values.old.items }
+    ensures capacity { vec_capacity values.new ≡ vec_capacity values.old }
+{
+    if count == 0 {
+        values.truncate(base);
+    } else {
+        move_down(values, base, count);
+    }
+}
+
+/// The same, not inlined: most branches keep none.
+#[inline(never)]
+fn move_down(values: &mut Vec<u64>, base: usize, count: usize)
     requires { base + count ≤ length values.old.items }
     ensures items { values.new.items
         ≡ take base values.old.items ++ drop (length values.old.items - count) values.old.items }

@@ -2,17 +2,17 @@ use Rattle.std.proofs.Common.{◌≡◌, ◌≢◌, ◌<◌, [], length, slice_g
 use Rattle.vr_wasm_ast.specs.Instructions.{instructions_of}
 use Rattle.vr_wasm_link.specs.Functions.{function_of}
 use Rattle.vr_wasm_steps.specs.Rows.{own, outside as of_host, called_from_outside, entry, lost, next}
-use Rattle.vr_wasm_stacks.specs.Positions.{term_of, outside}
+use Rattle.vr_wasm_stacks.specs.Positions.{Position, term_of, outside}
 use Rattle.vr_wasm_run.specs.Calls.{HasArguments, IsCallable, IsCalled}
 use Rattle.vr_wasm_run.specs.Configs.{config_of}
 use Rattle.vr_wasm_run.specs.Machines.{IsRow, program_of, config, waiting}
 use Rattle.vr_wasm_run.proofs.FunctionLemmas.{function_at, function_within}
-use Rattle.vr_wasm_run.proofs.OutsideLemmas.{entered_term, outside_over, outside_next, outside_found, host_arguments, host_row, arguments_here, called_there}
+use Rattle.vr_wasm_run.proofs.OutsideLemmas.{entered_term, entered_within, outside_over, outside_next, outside_found, host_arguments, host_row, arguments_here, called_there}
 use Rattle.vr_wasm_run.proofs.ProgressLemmas.{as_many, over_itself}
 use Rattle.vr_wasm_run.proofs.running.Running.outside.Goals as goal
 
-pub returns-in-None : goal.returns-in-None
-returns-in-None g c =
+pub returns-in-None-clause-stepped : goal.returns-in-None-clause-stepped
+returns-in-None-clause-stepped g c =
     record {
       row = (outside_over (program_of g.H.Host.reply c.args.self.now) (config g.H.Host.world c.args.self.now) c.args.self.now.state.stacks refl c.requires.rooted c.requires.ended c.requires.outside (c.in-None.ensures.none refl), refl);
       program = refl;
@@ -49,24 +49,8 @@ enter_outside-requires-clause-locals g c =
     let fits : IsCallable g.H.Host.finds (own c.in-Own.sort.now c.in-Own.locals (instructions_of c.in-Own.body.now)) = subst (IsCallable g.H.Host.finds) is can in
     fits.1
 
-pub inside-requires-clause-live : goal.inside-requires-clause-live
-inside-requires-clause-live g c =
-    let into : next (program_of g.H.Host.reply c.args.self.now) (config g.H.Host.world c.args.self.now) ≡ next (program_of g.H.Host.reply c.args.self.now) (entry (program_of g.H.Host.reply c.args.self.now) (config g.H.Host.world c.args.self.now) c.in-Some.at (waiting c.take_waiting.new.first c.take_waiting.new.main)) = outside_next (program_of g.H.Host.reply c.args.self.now) (config g.H.Host.world c.args.self.now) c.args.self.now.state.stacks refl c.requires.rooted c.requires.ended c.requires.outside c.in-Some.at (waiting c.take_waiting.new.first c.take_waiting.new.main) c.in-Some.ensures.waiting in
-    let live : next (program_of g.H.Host.reply c.args.self.now) (entry (program_of g.H.Host.reply c.args.self.now) (config g.H.Host.world c.args.self.now) c.in-Some.at (waiting c.take_waiting.new.first c.take_waiting.new.main)) ≢ lost = λ e. c.requires.live.live (into ∙ e) in
-    let place : c.in-Some.at < length c.args.self.now.functions.items = function_within c.args.self.now.functions.items c.in-Some.at (outside_found (program_of g.H.Host.reply c.args.self.now) (config g.H.Host.world c.args.self.now) c.in-Some.at (waiting c.take_waiting.new.first c.take_waiting.new.main) live) in
-    let found : slice_get (program_of g.H.Host.reply c.args.self.now).functions c.in-Some.at ≡ Some (function_of c.index-callee.result.now) = function_at c.args.self.now.functions.items c.in-Some.at c.index-callee.result.now place c.index-callee.ensures in
-    let is : function_of c.index-callee.result.now ≡ (own c.in-Own.sort.now c.in-Own.locals (instructions_of c.in-Own.body.now)) = ap function_of c.in-Own.is in
-    let entered : called_from_outside (slice_get (program_of g.H.Host.reply c.args.self.now).functions c.in-Some.at) c.in-Some.at ≡ term_of c.enter_outside.new.stacks =
-    ap (λ x. called_from_outside x c.in-Some.at) (found ∙ ap Some is)
-    ∙ sym (ap term_of c.enter_outside.ensures ∙ entered_term c.in-Own.sort.now c.in-Own.locals c.in-Own.body.now c.in-Some.at)
-    in
-    let same : next (program_of g.H.Host.reply c.args.self.now) (config g.H.Host.world c.args.self.now) ≡ next (program_of g.H.Host.reply c.args.self.now) (record (config g.H.Host.world c.args.self.now) { term = term_of c.enter_outside.new.stacks; calls = (waiting c.take_waiting.new.first c.take_waiting.new.main) }) =
-    into ∙ ap (λ x. next (program_of g.H.Host.reply c.args.self.now) (record (config g.H.Host.world c.args.self.now) { term = x; calls = (waiting c.take_waiting.new.first c.take_waiting.new.main) })) entered
-    in
-    record { callable = c.requires.live.callable; live = λ e. c.requires.live.live (same ∙ e) }
-
-pub returns-in-Own : goal.returns-in-Own
-returns-in-Own g c =
+pub returns-in-Own-clause-begun : goal.returns-in-Own-clause-begun
+returns-in-Own-clause-begun g c =
     let into : next (program_of g.H.Host.reply c.args.self.now) (config g.H.Host.world c.args.self.now) ≡ next (program_of g.H.Host.reply c.args.self.now) (entry (program_of g.H.Host.reply c.args.self.now) (config g.H.Host.world c.args.self.now) c.in-Some.at (waiting c.take_waiting.new.first c.take_waiting.new.main)) = outside_next (program_of g.H.Host.reply c.args.self.now) (config g.H.Host.world c.args.self.now) c.args.self.now.state.stacks refl c.requires.rooted c.requires.ended c.requires.outside c.in-Some.at (waiting c.take_waiting.new.first c.take_waiting.new.main) c.in-Some.ensures.waiting in
     let live : next (program_of g.H.Host.reply c.args.self.now) (entry (program_of g.H.Host.reply c.args.self.now) (config g.H.Host.world c.args.self.now) c.in-Some.at (waiting c.take_waiting.new.first c.take_waiting.new.main)) ≢ lost = λ e. c.requires.live.live (into ∙ e) in
     let place : c.in-Some.at < length c.args.self.now.functions.items = function_within c.args.self.now.functions.items c.in-Some.at (outside_found (program_of g.H.Host.reply c.args.self.now) (config g.H.Host.world c.args.self.now) c.in-Some.at (waiting c.take_waiting.new.first c.take_waiting.new.main) live) in
@@ -80,10 +64,10 @@ returns-in-Own g c =
     into ∙ ap (λ x. next (program_of g.H.Host.reply c.args.self.now) (record (config g.H.Host.world c.args.self.now) { term = x; calls = (waiting c.take_waiting.new.first c.take_waiting.new.main) })) entered
     in
     record {
-      row = subst (λ n. IsRow n (g.H.Host.world c.args.self.now.host) c.inside.result (config g.H.Host.world c.inside.new.self)) (sym same) c.inside.ensures.row;
-      program = c.inside.ensures.program;
-      counted = c.inside.ensures.counted;
-      stopped = c.inside.ensures.stopped;
+      same = sym same;
+      program = refl;
+      host = refl;
+      inside = λ _ e. absurd (entered_within c.in-Own.sort.now c.in-Own.locals c.in-Own.body.now (sym (ap (λ (z : Position). z.layers) c.enter_outside.ensures) ∙ e));
     }
 
 pub invoke-requires-clause-callable : goal.invoke-requires-clause-callable
@@ -104,8 +88,8 @@ invoke-requires-clause-arguments g c =
     let is : function_of c.index-callee.result.now ≡ of_host c.in-Outside.sort.now c.in-Outside.which = ap function_of c.in-Outside.is in
     subst (HasArguments c.index-callee.result.now) (sym c.clear.ensures) (arguments_here (program_of g.H.Host.reply c.args.self.now) (config g.H.Host.world c.args.self.now) c.in-Some.at (waiting c.take_waiting.new.first c.take_waiting.new.main) c.index-callee.result.now (host_arguments (program_of g.H.Host.reply c.args.self.now) (config g.H.Host.world c.args.self.now) c.in-Some.at (waiting c.take_waiting.new.first c.take_waiting.new.main) c.index-callee.result.now c.in-Outside.sort.now c.in-Outside.which is found live))
 
-pub returns-in-Outside : goal.returns-in-Outside
-returns-in-Outside g c =
+pub returns-in-Outside-clause-stepped : goal.returns-in-Outside-clause-stepped
+returns-in-Outside-clause-stepped g c =
     let into : next (program_of g.H.Host.reply c.args.self.now) (config g.H.Host.world c.args.self.now) ≡ next (program_of g.H.Host.reply c.args.self.now) (entry (program_of g.H.Host.reply c.args.self.now) (config g.H.Host.world c.args.self.now) c.in-Some.at (waiting c.take_waiting.new.first c.take_waiting.new.main)) = outside_next (program_of g.H.Host.reply c.args.self.now) (config g.H.Host.world c.args.self.now) c.args.self.now.state.stacks refl c.requires.rooted c.requires.ended c.requires.outside c.in-Some.at (waiting c.take_waiting.new.first c.take_waiting.new.main) c.in-Some.ensures.waiting in
     let live : next (program_of g.H.Host.reply c.args.self.now) (entry (program_of g.H.Host.reply c.args.self.now) (config g.H.Host.world c.args.self.now) c.in-Some.at (waiting c.take_waiting.new.first c.take_waiting.new.main)) ≢ lost = λ e. c.requires.live.live (into ∙ e) in
     let place : c.in-Some.at < length c.args.self.now.functions.items = function_within c.args.self.now.functions.items c.in-Some.at (outside_found (program_of g.H.Host.reply c.args.self.now) (config g.H.Host.world c.args.self.now) c.in-Some.at (waiting c.take_waiting.new.first c.take_waiting.new.main) live) in

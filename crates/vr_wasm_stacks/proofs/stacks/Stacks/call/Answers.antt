@@ -13,8 +13,8 @@ push_zeros-requires c =
     let slots = slots_at c.args.self.now _ _ _ c.self.view_is c.self.invariant.rises in
     omega (arith, slots, c.requires.slots, c.self.invariant.slots)
 
-pub unwrap-requires : goal.unwrap-requires
-unwrap-requires c =
+pub push_reserved-requires : goal.push_reserved-requires
+push_reserved-requires c =
     let labels = labels_at c.args.self.now _ _ _ c.self.view_is in
     let size = length-reverse c.self.inside.controls.items in
     grind (arith, common_steps)
@@ -29,8 +29,8 @@ invariant_of-self c =
     let long : c.len-height.result ≡ length c.self.inside.values.items + c.args.locals = omega (arith, ap length c.push_zeros.ensures.items, length-append c.self.inside.values.items (replicate c.args.locals 0), length-replicate {A = ℕ} c.args.locals 0) in
     let tall : c.len-frame.result ≡ length (reverse c.self.inside.controls.items) = omega (arith, length-reverse c.self.inside.controls.items) in
     let x : Control = Call c.args.results c.args.rest (length c.self.inside.values.items - c.args.params) (length c.self.inside.values.items + c.args.locals) c.self.inside.frame c.self.inside.base in
-    let pushed : c.push.new.self.items ≡ c.self.inside.controls.items ++ Call c.args.results c.args.rest (c.len.result - c.args.params) c.len-height.result c.self.inside.frame c.self.inside.base ∷ [] = grind (arith, common_steps) in
-    let es = called_entries c.self.inside.controls.items c.push.new.self.items c.args.results c.args.rest c.args.params c.args.locals c.self.inside.frame c.self.inside.base _ _ (length c.self.inside.values.items) count long pushed in
+    let pushed : c.push_reserved.new.self.items ≡ c.self.inside.controls.items ++ Call c.args.results c.args.rest (c.len.result - c.args.params) c.len-height.result c.self.inside.frame c.self.inside.base ∷ [] = grind (arith, common_steps) in
+    let es = called_entries c.self.inside.controls.items c.push_reserved.new.self.items c.args.results c.args.rest c.args.params c.args.locals c.self.inside.frame c.self.inside.base _ _ (length c.self.inside.values.items) count long pushed in
     record {
       rises = subst (λ y. Rises y c.push_zeros.new.values.items) (sym es) (subst (Rises (x ∷ reverse c.self.inside.controls.items)) (sym c.push_zeros.ensures.items) it.rises);
       keeps = subst (λ y. Keeps y c.len-frame.result (c.len.result - c.args.params)) (sym es) (tall, ap (λ n. n - c.args.params) count, c.self.invariant.keeps);
@@ -39,7 +39,7 @@ invariant_of-self c =
       few_slots = omega (arith, slots, c.requires.slots, ap length c.push_zeros.ensures.items, length-append c.self.inside.values.items (replicate c.args.locals 0), length-replicate {A = ℕ} c.args.locals 0);
       few_labels = omega (arith, labels, c.requires.labels, ap length es);
       slots = omega (arith, c.push_zeros.ensures.capacity, c.self.invariant.slots);
-      labels = omega (arith, c.push.ensures.capacity, c.self.invariant.labels);
+      labels = omega (arith, c.push_reserved.ensures.capacity, c.self.invariant.labels);
     }
 
 pub returns : goal.returns
@@ -49,8 +49,8 @@ returns c =
     let long : c.len-height.result ≡ length c.self.inside.values.items + c.args.locals = omega (arith, ap length c.push_zeros.ensures.items, length-append c.self.inside.values.items (replicate c.args.locals 0), length-replicate {A = ℕ} c.args.locals 0) in
     let tall : c.len-frame.result ≡ length (reverse c.self.inside.controls.items) = omega (arith, length-reverse c.self.inside.controls.items) in
     let x : Control = Call c.args.results c.args.rest (length c.self.inside.values.items - c.args.params) (length c.self.inside.values.items + c.args.locals) c.self.inside.frame c.self.inside.base in
-    let pushed : c.push.new.self.items ≡ c.self.inside.controls.items ++ Call c.args.results c.args.rest (c.len.result - c.args.params) c.len-height.result c.self.inside.frame c.self.inside.base ∷ [] = grind (arith, common_steps) in
-    let es = called_entries c.self.inside.controls.items c.push.new.self.items c.args.results c.args.rest c.args.params c.args.locals c.self.inside.frame c.self.inside.base _ _ (length c.self.inside.values.items) count long pushed in
+    let pushed : c.push_reserved.new.self.items ≡ c.self.inside.controls.items ++ Call c.args.results c.args.rest (c.len.result - c.args.params) c.len-height.result c.self.inside.frame c.self.inside.base ∷ [] = grind (arith, common_steps) in
+    let es = called_entries c.self.inside.controls.items c.push_reserved.new.self.items c.args.results c.args.rest c.args.params c.args.locals c.self.inside.frame c.self.inside.base _ _ (length c.self.inside.values.items) count long pushed in
     ap (λ y. position y c.push_zeros.new.values.items c.args.body.now) es
     ∙ ap (λ y. position (x ∷ reverse c.self.inside.controls.items) y c.args.body.now) c.push_zeros.ensures.items
     ∙ it.lands

@@ -4,8 +4,8 @@ use Rattle.std.proofs.lemmas.List.{length-reverse}
 use Rattle.vr_wasm_stacks.proofs.CountLemmas.{labels_at, height_within}
 use Rattle.vr_wasm_stacks.proofs.stacks.Stacks.enter.Goals as goal
 
-pub unwrap-requires : goal.unwrap-requires
-unwrap-requires c =
+pub push_reserved-requires : goal.push_reserved-requires
+push_reserved-requires c =
     let counted = labels_at c.args.self.now _ _ _ c.self.view_is in
     let size = length-reverse c.self.inside.controls.items in
     grind (arith, common_steps)

@@ -3,8 +3,8 @@ use Rattle.std.proofs.lemmas.Grind.{common_steps}
 use Rattle.vr_wasm_stacks.proofs.CountLemmas.{slots_at}
 use Rattle.vr_wasm_stacks.proofs.stacks.Stacks.push.Goals as goal
 
-pub unwrap-requires : goal.unwrap-requires
-unwrap-requires c =
+pub push_reserved-requires : goal.push_reserved-requires
+push_reserved-requires c =
     let counted = slots_at c.args.self.now _ _ _ c.self.view_is c.self.invariant.rises in
     grind (arith, common_steps)
 
