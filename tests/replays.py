@@ -1,44 +1,16 @@
-"""Whole replays by the program: what replays.sh runs.
+"""Whole replays by the program, and the flows of their policies: what replays.sh runs.
 
 Each row: what it shows, the policy, the calls of a script with the reply to each, and the files that are left, in the
-order of their paths. The hashes are taken here.
+order of their paths. The hashes are taken here. Of flows: what it shows, the policy and the lines.
 """
-import hashlib, json, sys
+import sys
 from program import Rows
-
-
-def grants(rights):
-    return [{"file_name": name, "rights": word} for name, word in rights.items()]
-
-
-def policy(identities, **lists):
-    """The text of a policy: the grants of each identity by its id, and further lists."""
-    listed = [{"id": who, "file_rights": grants(rights)} for who, rights in identities.items()]
-    return json.dumps({"identities": listed, **lists}, separators=(",", ":"))
-
-
-def sha256(content):
-    return hashlib.sha256(content).hexdigest()
-
+from texts import LISTS, PROGRAMS, WARD, policy, script_of, text_of
 
 # One writes `/in`, and another reads it.
 IN_ORDER = policy({1: {"in": "w"}, 2: {"./in": "r"}})
 # One does both.
 BOTH = policy({1: {"in": "rw"}, 2: {"./in": "r"}})
-# A drop box, into which one writes and from which another reads, but not below `/box/b/`; programs and pipelines.
-WARD = {
-    1: {"/in": "rw", "/box/": 64},
-    2: {"/p/": "rwx", "/out": "rw", "/flag": "rw"},
-    3: {"/box/": 70, "/box/b/": 0, "/out": 64},
-}
-PROGRAMS = {f"/p/m{k}": {"/out": 67108864} if k in (3, 4) else {"/in": "r"} if k == 7 else {} for k in range(8)}
-PIPELINES = [f"/p/m{k}" for k in range(6)]
-PIPELINES += ["/p/m6 ; /p/m2", "/p/m2 ; if /flag { /p/m0 } else { /p/m2 } ;", "/p/m2 | /p/m0", "/p/m7"]
-LISTS = {
-    "programs": [{"program_file_name": name, "file_rights": grants(rights)} for name, rights in PROGRAMS.items()],
-    "pipelines": [{"id": k, "pipeline": text} for k, text in enumerate(PIPELINES)],
-    "file_hashes": [{"file_path": "/in", "hash": sha256(b"abc")}],
-}
 BOX = policy(WARD, **LISTS)
 BOX_OF_FOUR = policy(WARD, **LISTS, quotas=[{"file_name": "/box/", "bytes": 4}])
 NO_OUT = policy(WARD, **LISTS, quotas=[{"file_name": "/out", "bytes": 0}])
@@ -118,29 +90,27 @@ ROWS = [
     ("a text of several pieces", IN_ORDER, [("2 hash", HASH)] * 3000, {}),
 ]
 
-
-def coded(text):
-    return text if isinstance(text, bytes) else text.encode()
-
-
-def text_of(policy, calls, files):
-    """The text of a replay in which each call has its reply. A line without one is no call."""
-    hashed = sha256(policy.encode())
-    lines = [f"policy {hashed}"]
-    for number, (line, reply) in enumerate(calls, 1):
-        if reply is not None:
-            lines.append(f"{number} {coded(line).split()[0].decode()} {reply.format(hash=hashed)}")
-    lines += [f"file {path} {len(body)} {sha256(body)}" for path, body in files.items()]
-    return ("\n".join(lines) + "\n").encode()
-
+# 2 reads what pipeline 4 unlinks and what 1 and 3 write. 1 learns of 3 only where `/box/` has a quota, which tells 1 its size.
+TO_2 = "flow 2 identities 1 2 3 regions /flag /in /out /p/ " + " ".join(PROGRAMS)
+TO_3 = "flow 3 identities 1 3 regions /box/"
+FLOWS = [
+    ("flows of the drop box", BOX, ["flow 1 identities 1 regions /in", TO_2, TO_3]),
+    ("flows by a quota", BOX_OF_FOUR, ["flow 1 identities 1 3 regions /box/ /in", TO_2, TO_3]),
+    ("flows from one who appends, and so learns of sizes, to a reader", IN_ORDER, ["flow 1 identities 1 regions /in", "flow 2 identities 1 2 regions /in"]),
+]
 
 FILES = {}
 for place, (name, said, calls, files) in enumerate(ROWS):
     FILES[f"policy-{place}"] = said.encode()
-    FILES[f"script-{place}"] = b"\n".join(coded(line) for line, reply in calls)
+    FILES[f"script-{place}"] = script_of(calls)
+for place, (name, said, lines) in enumerate(FLOWS):
+    FILES[f"flows-{place}"] = said.encode()
 
 table = Rows("replays", sys.argv[1], FILES)
 for place, (name, said, calls, files) in enumerate(ROWS):
     done = table.run([table.program, "replay", f"policy-{place}", f"script-{place}"])
     table.compare(name, done, 0, "", text_of(said, calls, files))
+for place, (name, said, lines) in enumerate(FLOWS):
+    done = table.run([table.program, "flows", f"flows-{place}"])
+    table.compare(name, done, 0, "", "".join(line + "\n" for line in lines).encode())
 table.end()

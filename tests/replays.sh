@@ -1,7 +1,9 @@
 #!/bin/sh
-# Replays scripts by the built program, and compares each text with the one that a table says.
+# Replays scripts by the built program, and compares each text with the one that a table says: of reads, writes and
+# appends, and of runs.
 #   tests/replays.sh
 set -eu
 cd "$(dirname "$0")/.."
 ./vr hash examples/first/policy.json >/dev/null
-exec python3 tests/replays.py crates/vr/out/vr
+python3 tests/replays.py crates/vr/out/vr
+exec python3 tests/runs.py crates/vr/out/vr

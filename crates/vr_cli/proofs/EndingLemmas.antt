@@ -6,17 +6,18 @@ use Rattle.vr_base.proofs.Written.{AppendsPrefix-none}
 use Rattle.vr_base.specs.Checks.{◌>>=◌}
 use Rattle.vr_base.specs.Outside.{FolderCounts}
 use Rattle.vr_cli.specs.Endings.{Gives, GivesOver, HasCount, HasReadCause, SaysOf, SaysOver, IsAtMostBegun, IsBeforeText, IsOutside, IsCaused, Ends, HasCauses}
-use Rattle.vr_cli.specs.Outputs.{Tested, NamedFiles, in_file, origin_from, script_in, text_of}
-use Rattle.vr_cli.specs.Words.{replay}
-use Rattle.vr_core.specs.Machine.{Origin}
+use Rattle.vr_cli.specs.Outputs.{Tested, NamedFiles, in_file, origin_under, policy_from, script_in, Output, text, flows_under, replay_of, output_of}
+use Rattle.vr_policy_check.specs.Rules.{CheckedData}
 use Rattle.vr_policy_read.specs.Limits.{most_policy}
 use Rattle.vr_report.specs.Script.{most_script}
-use Rattle.vr_report.specs.Texts.{replay_text}
 use Rattle.vr_report.specs.declared.script.Line.{Line}
+use Rattle.vr_words.specs.Grammar.{replay}
+use Rattle.vr_words.specs.Options.{Placed}
 use Rattle.vr_cli.specs.declared.status.Status.{Status}
 use Rattle.vr_cli.specs.declared.status.Status.TheVariants.{Usage, PolicyRefused, ScriptRefused, Absent, ReadFault, WriteFault, WantOfMemory}
 use Rattle.vr_cli.specs.declared.status.Status.TheVariants as statuses
 use Rattle.vr_cli.proofs.FileLemmas.{told_more}
+use Rattle.vr_cli.proofs.ReplayLemmas.{replay_none}
 
 Keeps-same : (o : Option (List ℕ)) → Keeps o o
 Keeps-same None = tt
@@ -28,17 +29,19 @@ unchanged old new e = subst (λ (o : Option (List ℕ)). Keeps old o) e (Keeps-s
 
 -- ---- a task that ended with a status
 
-nothing_written : (o : Option (List ℕ)) (answer : Tested (List ℕ)) → IsAtMostBegun answer o o
-nothing_written o (Ok text) = AppendsPrefix-none o text
+nothing_written : (o : Option (List ℕ)) (answer : Tested Output) → IsAtMostBegun answer o o
+nothing_written o (Ok (text bytes)) = AppendsPrefix-none o bytes
+nothing_written o (Ok (flows_under checked)) = Keeps-same o
+nothing_written o (Ok (replay_of origin script)) = replay_none origin script o
 nothing_written o (Err status) = Keeps-same o
 
 -- memory ran out before anything was written
-pub nothing_yet : (files : Option NamedFiles) (answer : NamedFiles → Tested (List ℕ)) (o : Option (List ℕ)) → SaysOver files WantOfMemory answer o o
+pub nothing_yet : (files : Option NamedFiles) (answer : NamedFiles → Tested Output) (o : Option (List ℕ)) → SaysOver files WantOfMemory answer o o
 nothing_yet None answer o = tt
 nothing_yet (Some fs) answer o = nothing_written o (answer fs)
 
 -- what refuses a part of the text refuses the text
-says_before : {A : Type 0} (status : Status) (part : Tested A) (rest : A → Tested (List ℕ)) (o : Option (List ℕ)) → Gives {A = A} (Err status) part → SaysOf status (part >>= rest) o o
+says_before : {A : Type 0} (status : Status) (part : Tested A) (rest : A → Tested Output) (o : Option (List ℕ)) → Gives {A = A} (Err status) part → SaysOf status (part >>= rest) o o
 says_before statuses.Ok part rest o h = absurd h
 says_before (Usage index) part rest o h = absurd h
 says_before (PolicyRefused stage rule index) part rest o h = rw h refl
@@ -48,13 +51,19 @@ says_before ReadFault part rest o h = tt
 says_before WriteFault part rest o h = absurd h
 says_before WantOfMemory part rest o h = nothing_written o (part >>= rest)
 
+-- a replay whose policy is refused
+pub policy_says : (files : Option NamedFiles) (fuel : ℕ) (policy script : Placed) (status : Status) (o : Option (List ℕ))
+    → GivesOver {A = CheckedData × List ℕ} files (Err status) (in_file (policy_from most_policy) policy) → SaysOver files status (output_of (replay fuel policy script)) o o
+policy_says None fuel policy script status o h = tt
+policy_says (Some fs) fuel policy script status o h = says_before status (in_file (policy_from most_policy) policy fs) _ o h
+
 -- a replay whose script is refused
-pub script_says : (files : Option NamedFiles) (policy script : List ℕ) (origin : Origin) (status : Status) (o : Option (List ℕ))
-    → GivesOver files (Ok origin) (in_file (origin_from most_policy) 1 policy) → GivesOver {A = List Line} files (Err status) (in_file (script_in most_script) 2 script)
-    → SaysOver files status (text_of (replay policy script)) o o
-script_says None policy script origin status o h k = tt
-script_says (Some fs) policy script origin status o h k =
-    rw h (says_before status (in_file (script_in most_script) 2 script fs) (λ calls. Ok (replay_text origin calls)) o k)
+pub script_says : (files : Option NamedFiles) (fuel : ℕ) (policy script : Placed) (said : CheckedData × List ℕ) (status : Status) (o : Option (List ℕ))
+    → GivesOver files (Ok said) (in_file (policy_from most_policy) policy) → GivesOver {A = List Line} files (Err status) (in_file (script_in most_script) script)
+    → SaysOver files status (output_of (replay fuel policy script)) o o
+script_says None fuel policy script said status o h k = tt
+script_says (Some fs) fuel policy script said status o h k =
+    rw h (says_before status (in_file (script_in most_script) script fs) (λ calls. Ok (replay_of (origin_under fuel said.0 said.1) calls)) o k)
 
 later_count : (status : Status) (old between new : FolderCounts) → old.absences ≤ between.absences → old.faults ≤ between.faults → HasCount between new status → HasCount old new status
 later_count statuses.Ok old between new a f h = h
@@ -85,11 +94,11 @@ later_cause old between new value (Err status) h k =
 
 -- ---- what each status of a command says
 
-module _ (answer : Tested (List ℕ)) (status : Status) (old new : Option (List ℕ)) (h : SaysOf status answer old new) where
+module _ (answer : Tested Output) (status : Status) (old new : Option (List ℕ)) (h : SaysOf status answer old new) where
   says_as : (named : Status) → status ≡ named → SaysOf named answer old new
   says_as named e = subst (λ (s : Status). SaysOf s answer old new) e h
 
-says_refused : (status refusal : Status) (answer : Tested (List ℕ)) (old new : Option (List ℕ)) → SaysOf status answer old new → answer ≡ Err refusal → (status ≡ refusal) ⊎ IsBeforeText status
+says_refused : (status refusal : Status) (answer : Tested Output) (old new : Option (List ℕ)) → SaysOf status answer old new → answer ≡ Err refusal → (status ≡ refusal) ⊎ IsBeforeText status
 says_refused statuses.Ok refusal answer old new h e = absurd (rw e at h)
 says_refused (Usage index) refusal answer old new h e = absurd h
 says_refused (PolicyRefused stage rule index) refusal answer old new h e = inl (cc (h, e))
@@ -99,29 +108,29 @@ says_refused ReadFault refusal answer old new h e = inr tt
 says_refused WriteFault refusal answer old new h e = absurd (rw e at h)
 says_refused WantOfMemory refusal answer old new h e = inr tt
 
-says_complete : (status : Status) (text : List ℕ) (answer : Tested (List ℕ)) (old new : Option (List ℕ)) → SaysOf status answer old new → answer ≡ Ok text → (status ≡ statuses.Ok) ⊎ IsOutside status
-says_complete statuses.Ok text answer old new h e = inl refl
-says_complete (Usage index) text answer old new h e = absurd h
-says_complete (PolicyRefused stage rule index) text answer old new h e = cc (h, e)
-says_complete (ScriptRefused line) text answer old new h e = cc (h, e)
-says_complete (Absent word) text answer old new h e = cc (h, e)
-says_complete ReadFault text answer old new h e = inr tt
-says_complete WriteFault text answer old new h e = inr tt
-says_complete WantOfMemory text answer old new h e = inr tt
+says_complete : (status : Status) (output : Output) (answer : Tested Output) (old new : Option (List ℕ)) → SaysOf status answer old new → answer ≡ Ok output → (status ≡ statuses.Ok) ⊎ IsOutside status
+says_complete statuses.Ok output answer old new h e = inl refl
+says_complete (Usage index) output answer old new h e = absurd h
+says_complete (PolicyRefused stage rule index) output answer old new h e = cc (h, e)
+says_complete (ScriptRefused line) output answer old new h e = cc (h, e)
+says_complete (Absent word) output answer old new h e = cc (h, e)
+says_complete ReadFault output answer old new h e = inr tt
+says_complete WriteFault output answer old new h e = inr tt
+says_complete WantOfMemory output answer old new h e = inr tt
 
-ends : (answer : Tested (List ℕ)) (status : Status) (old new : Option (List ℕ)) → SaysOf status answer old new → Ends answer status old new
+ends : (answer : Tested Output) (status : Status) (old new : Option (List ℕ)) → SaysOf status answer old new → Ends answer status old new
 ends answer status old new h = record {
   done = says_as answer status old new h statuses.Ok;
   policy_refused = λ stage rule index. says_as answer status old new h (PolicyRefused stage rule index);
   script_refused = λ line. says_as answer status old new h (ScriptRefused line);
   not_there = λ word. says_as answer status old new h (Absent word);
   refused = λ refusal. says_refused status refusal answer old new h;
-  complete = λ text. says_complete status text answer old new h;
+  complete = λ output. says_complete status output answer old new h;
   cut_off = says_as answer status old new h WriteFault;
   out_of_memory = says_as answer status old new h WantOfMemory;
 }
 
-pub ends_over : (files : Option NamedFiles) (answer : NamedFiles → Tested (List ℕ)) (status : Status) (old new : Option (List ℕ)) → SaysOver files status answer old new
+pub ends_over : (files : Option NamedFiles) (answer : NamedFiles → Tested Output) (status : Status) (old new : Option (List ℕ)) → SaysOver files status answer old new
     → IfSome files (λ fs. Ends (answer fs) status old new)
 ends_over files answer status old new h =
     told_more files (λ fs. SaysOf status (answer fs) old new) (λ fs. Ends (answer fs) status old new) (λ fs. ends (answer fs) status old new) h

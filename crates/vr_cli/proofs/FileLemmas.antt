@@ -5,7 +5,8 @@ use Rattle.std.proofs.lemmas.List.{take_all, length-take-le}
 use Rattle.std.specs.Prelude.{IfSome, IfErr}
 use Rattle.vr_base.specs.Checks.{◌>>=◌, result_map, or_fault, Told, nothing, exactly, never, Tells}
 use Rattle.vr_base.specs.Outside.{FolderCounts, Holds, IsNotThere, file_of}
-use Rattle.vr_cli.specs.Outputs.{Tested, NamedFiles, bytes_named, in_file, origin_from, checked_from, script_in, digits_from}
+use Rattle.vr_cli.specs.Outputs.{Tested, NamedFiles, bytes_named, in_file, policy_from, checked_from, script_in, digits_from}
+use Rattle.vr_words.specs.Options.{Placed}
 use Rattle.vr_cli.specs.Endings.{told, Gives, GivesOver, HasCount, IsRefusal}
 use Rattle.vr_cli.specs.declared.status.Status.{Status}
 use Rattle.vr_cli.specs.declared.status.Status.TheVariants.{PolicyRefused, ScriptRefused, WantOfMemory, Absent}
@@ -22,15 +23,15 @@ first_bytes : (place most : ℕ) (file : Option (List ℕ)) (bytes : List ℕ) �
 first_bytes place most None bytes h = cc
 first_bytes place most (Some whole) bytes h = cc
 
-pub told_bytes : (files : Option NamedFiles) (name bytes : List ℕ) (most place : ℕ) → Holds files name most bytes
-    → GivesOver files (Ok bytes) (λ fs. result_map (take most) (bytes_named place name fs))
-told_bytes None name bytes most place h = tt
-told_bytes (Some fs) name bytes most place h = first_bytes place most (file_of name fs) bytes h
+pub told_bytes : (files : Option NamedFiles) (word : Placed) (bytes : List ℕ) (most : ℕ) → Holds files word.text most bytes
+    → GivesOver files (Ok bytes) (λ fs. result_map (take most) (bytes_named word fs))
+told_bytes None word bytes most h = tt
+told_bytes (Some fs) word bytes most h = first_bytes word.place most (file_of word.text fs) bytes h
 
-pub told_absent : (files : Option NamedFiles) (name : List ℕ) (most place : ℕ) → IsNotThere files name
-    → GivesOver files (Err (Absent place)) (λ fs. result_map (take most) (bytes_named place name fs))
-told_absent None name most place h = tt
-told_absent (Some fs) name most place h = ap (λ file. result_map (take most) (or_fault (Absent place) file)) h
+pub told_absent : (files : Option NamedFiles) (word : Placed) (most : ℕ) → IsNotThere files word.text
+    → GivesOver files (Err (Absent word.place)) (λ fs. result_map (take most) (bytes_named word fs))
+told_absent None word most h = tt
+told_absent (Some fs) word most h = ap (λ file. result_map (take most) (or_fault (Absent word.place) file)) h
 
 pub told_freely : (files : Option NamedFiles) → IfSome files (λ _. Unit {0})
 told_freely None = tt
@@ -69,7 +70,7 @@ same_of_prefix reading most refusal longer bytes = elim (whole_or_long most byte
   | inr both ↦ longer (take (most + 1) bytes) both.1 ∙ sym (longer bytes both.0)
 ]
 
-pub long_policy : (most : ℕ) → RefusesLonger origin_from most (Err (PolicyRefused 1 1 0))
+pub long_policy : (most : ℕ) → RefusesLonger policy_from most (Err (PolicyRefused 1 1 0))
 long_policy most bytes h = rw (lt-ltb most (length bytes) h) refl
 
 pub long_checked : (most : ℕ) → RefusesLonger checked_from most (Err (PolicyRefused 1 1 0))
@@ -87,22 +88,22 @@ tells_on (exactly status) (Ok x) f g h = cc
 tells_on (exactly status) (Err other) f g h = cc
 tells_on never a f g h = h
 
-module _ {A : Type 0} (reading : ℕ → List ℕ → Tested A) (most place : ℕ) (refusal : Tested A) (longer : RefusesLonger reading most refusal) where
-  file_reading : (file : Option (List ℕ)) (bytes : List ℕ) → result_map (take (most + 1)) (or_fault (Absent place) file) ≡ Ok bytes
+module _ {A : Type 0} (reading : ℕ → List ℕ → Tested A) (most : ℕ) (refusal : Tested A) (longer : RefusesLonger reading most refusal) where
+  file_reading : (place : ℕ) (file : Option (List ℕ)) (bytes : List ℕ) → result_map (take (most + 1)) (or_fault (Absent place) file) ≡ Ok bytes
       → or_fault (Absent place) file >>= reading most ≡ reading most bytes
-  file_reading None bytes h = cc
-  file_reading (Some whole) bytes h =
+  file_reading place None bytes h = cc
+  file_reading place (Some whole) bytes h =
       let same : take (most + 1) whole ≡ bytes = cc in
       sym (same_of_prefix reading most refusal longer whole) ∙ ap (reading most) same
 
   -- what was read of the first bytes is what the file says
-  pub told_reading : (files : Option NamedFiles) (name bytes : List ℕ) (result : Tested A) → GivesOver files (Ok bytes) (λ fs. result_map (take (most + 1)) (bytes_named place name fs))
-      → Gives result (reading most bytes) → GivesOver files result (in_file (reading most) place name)
-  told_reading None name bytes result h k = tt
-  told_reading (Some fs) name bytes result h k = rw (file_reading (file_of name fs) bytes h) k
+  pub told_reading : (files : Option NamedFiles) (word : Placed) (bytes : List ℕ) (result : Tested A) → GivesOver files (Ok bytes) (λ fs. result_map (take (most + 1)) (bytes_named word fs))
+      → Gives result (reading most bytes) → GivesOver files result (in_file (reading most) word)
+  told_reading None word bytes result h k = tt
+  told_reading (Some fs) word bytes result h k = rw (file_reading word.place (file_of word.text fs) bytes h) k
 
   -- what refused the first bytes refuses the file
-  pub told_refusal : (files : Option NamedFiles) (name : List ℕ) (status : Status) → GivesOver {A = List ℕ} files (Err status) (λ fs. result_map (take (most + 1)) (bytes_named place name fs))
-      → GivesOver {A = A} files (Err status) (in_file (reading most) place name)
-  told_refusal None name status h = tt
-  told_refusal (Some fs) name status h = tells_on (told status) (bytes_named place name fs) (take (most + 1)) (reading most) h
+  pub told_refusal : (files : Option NamedFiles) (word : Placed) (status : Status) → GivesOver {A = List ℕ} files (Err status) (λ fs. result_map (take (most + 1)) (bytes_named word fs))
+      → GivesOver {A = A} files (Err status) (in_file (reading most) word)
+  told_refusal None word status h = tt
+  told_refusal (Some fs) word status h = tells_on (told status) (bytes_named word fs) (take (most + 1)) (reading most) h

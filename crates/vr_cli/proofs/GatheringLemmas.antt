@@ -1,14 +1,11 @@
 -- What is written of a text that goes through a buffer, piece by piece.
-use Rattle.std.proofs.Common.{◌≡◌, List, ℕ, [], ◌++◌, Option, None, Some, Result, Ok, Err, refl, sym, ap, ◌∙◌, subst, append_assoc}
+use Rattle.std.proofs.Common.{◌≡◌, List, ℕ, [], ◌++◌, Option, None, Some, Result, Ok, Err, sym, ap, ◌∙◌, subst, append_assoc}
 use Rattle.std.proofs.lemmas.List.{append-nil}
-use Rattle.std.specs.Prelude.{IsErr, IsTrue, OnOk}
+use Rattle.std.specs.Prelude.{IsErr}
 use Rattle.std.specs.Io.KnownBytes.{Appends}
 use Rattle.vr_base.specs.Outside.{AppendsPrefix}
-use Rattle.vr_base.proofs.Written.{Appends-then, AppendsPrefix-more, AppendsPrefix-then, AppendsPrefix-all}
-use Rattle.vr_base.specs.declared.calls.Reply.{Reply}
-use Rattle.vr_base.specs.declared.calls.Reply.TheVariants.{OutOfMemory}
-use Rattle.vr_core.specs.Replies.{has_memory}
-use Rattle.vr_cli.specs.Gathering.{Gathers, HandsIn, Writes}
+use Rattle.vr_base.proofs.Written.{AppendsPrefix-none, Appends-then, AppendsPrefix-more, AppendsPrefix-then, AppendsPrefix-all}
+use Rattle.vr_cli.specs.Gathering.{Gathers, HandsIn, HandsInLines, PutsPrefixOfOne, Writes, WritesOne}
 
 module _ (a b c : Option (List ℕ)) (held rest left xs ys : List ℕ) where
   -- a text was handed in, and then another
@@ -42,6 +39,11 @@ pub HandsIn-failed : {E : Type 0} (result : Result (List ℕ) E) (a b : Option (
 HandsIn-failed (Ok rest) a b held text failed h = cc
 HandsIn-failed (Err e) a b held text failed h = h
 
+-- nothing was handed in
+pub Gathers-none : (a : Option (List ℕ)) (held : List ℕ) → Gathers a a held held []
+Gathers-none None held = record { gained = []; written = tt; whole = sym (append-nil held) }
+Gathers-none (Some bytes) held = record { gained = []; written = sym (append-nil bytes); whole = sym (append-nil held) }
+
 -- a piece was added to what is held, and then all was passed on
 pub Gathers-added : (a b : Option (List ℕ)) (held rest piece : List ℕ) → Gathers a b (held ++ piece) rest [] → Gathers a b held rest piece
 Gathers-added a b held rest piece h = record { gained = h.gained; written = h.written; whole = h.whole ∙ append-nil (held ++ piece) }
@@ -66,8 +68,7 @@ pub record Reaches (a b : Option (List ℕ)) (held rest left whole : List ℕ) :
   pub split : so_far ++ left ≡ whole
 
 pub reaches_none : (a : Option (List ℕ)) (held left whole : List ℕ) → left ≡ whole → Reaches a a held held left whole
-reaches_none None held left whole e = record { so_far = []; handed = record { gained = []; written = tt; whole = sym (append-nil held) }; split = e }
-reaches_none (Some bytes) held left whole e = record { so_far = []; handed = record { gained = []; written = sym (append-nil bytes); whole = sym (append-nil held) }; split = e }
+reaches_none a held left whole e = record { so_far = []; handed = Gathers-none a held; split = e }
 
 pub reaches_all : (a b : Option (List ℕ)) (held rest whole : List ℕ) → Reaches a b held rest [] whole → Gathers a b held rest whole
 reaches_all a b held rest whole h = subst (λ (t : List ℕ). Gathers a b held rest t) (sym (append-nil h.so_far) ∙ h.split) h.handed
@@ -97,17 +98,27 @@ pub Writes-gathered : {A E : Type 0} (result : Result A E) (a b c : Option (List
 Writes-gathered (Ok x) a b c held rest text h k = subst (λ (t : List ℕ). Appends a c t) h.whole (Appends-then a b c h.gained rest h.written k)
 Writes-gathered (Err e) a b c held rest text h k = subst (λ (t : List ℕ). AppendsPrefix a c t) h.whole (AppendsPrefix-then a b c h.gained rest h.written k)
 
--- a reply that isn't for want of memory is the machine's
-pub has_memory_unless : (reply : Reply) → (reply ≡ OutOfMemory → ⊥) → IsTrue (has_memory reply)
-has_memory_unless OutOfMemory h = absurd (h refl)
-has_memory_unless reply h = refl
+-- ---- texts of which is known what they are
 
--- a fact that holds anyway
-pub on_ok : {A E P : Type 0} (result : Result A E) → P → OnOk result P
-on_ok (Ok x) p = p
-on_ok (Err e) p = tt
+module _ {E : Type 0} (result : Result (List ℕ) E) where
+  -- an error came, and of the first lines a prefix was written
+  pub HandsInLines-failed : (a b : Option (List ℕ)) (held : List ℕ) (AreAll AreFirst : List ℕ → Type 0) → IsErr result
+      → (lines : List ℕ) × AreFirst lines × AppendsPrefix a b (held ++ lines) → HandsInLines result a b held AreAll AreFirst
+  HandsInLines-failed a b held AreAll AreFirst failed h = by_result result failed
+    where
+      by_result : (r : Result (List ℕ) E) → IsErr r → HandsInLines r a b held AreAll AreFirst
+      by_result (Ok rest) none = cc
+      by_result (Err e) none = h
 
--- what is said of an Ok, where an error came
-pub no_ok : {A E : Type 0} (P : Type 0) (result : Result A E) → IsErr result → OnOk result P
-no_ok P (Ok x) failed = cc
-no_ok P (Err e) failed = tt
+  -- an error came before anything was written
+  pub HandsInLines-none : (o : Option (List ℕ)) (held : List ℕ) (AreAll AreFirst : List ℕ → Type 0) → IsErr result → AreFirst [] → HandsInLines result o o held AreAll AreFirst
+  HandsInLines-none o held AreAll AreFirst failed first = HandsInLines-failed o o held AreAll AreFirst failed ([], first, AppendsPrefix-none o (held ++ []))
+
+module _ {A E : Type 0} (result : Result A E) where
+  -- an error came, and of a text so far a prefix was written
+  pub WritesOne-failed : (a b : Option (List ℕ)) (IsWhole IsSoFar : List ℕ → Type 0) → IsErr result → PutsPrefixOfOne a b IsSoFar → WritesOne result a b IsWhole IsSoFar
+  WritesOne-failed a b IsWhole IsSoFar failed h = by_result result failed
+    where
+      by_result : (r : Result A E) → IsErr r → WritesOne r a b IsWhole IsSoFar
+      by_result (Ok x) none = cc
+      by_result (Err e) none = h

@@ -1,8 +1,8 @@
 -- A book that is started over a keeper without rows that never fails.
-use Rattle.std.proofs.Common.{◌≡◌, ◌≢◌, ◌≤◌, ◌+◌, ◌-◌, ◌^◌, min, ℕ, Option, Some, Err, Result, refl, ap, sym, ◌∙◌, arith}
+use Rattle.std.proofs.Common.{◌≡◌, ◌≤◌, ℕ, Option, Some, Err, refl, arith}
 use Rattle.vr_base.specs.Causes.{HasCauseOf, Rose}
 use Rattle.vr_files.specs.FileMaps.{FileMap, no_files}
-use Rattle.vr_core.specs.Opening.{ComesFromRows, opening_of}
+use Rattle.vr_core.specs.Opening.{ComesFromRows}
 use Rattle.vr_core.specs.declared.opening.StartFault.{StartFault}
 use Rattle.vr_core.specs.declared.opening.StartFault.TheVariants.{KeeperFailed, BadRow, OutOfMemory}
 use Rattle.vr_core.proofs.OpeningLemmas.{no_rows}

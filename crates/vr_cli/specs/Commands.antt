@@ -1,18 +1,21 @@
--- What the code's own types stand for.
-use Rattle.std.specs.Prelude.{List, ℕ}
-use Rattle.vr_core.specs.Machine.{Origin}
-use Rattle.vr_policy_check.specs.Rules.{CheckedData}
-use Rattle.vr_cli.specs.Outputs.{origin_under}
-use Rattle.vr_cli.specs.Words.{Task, hash, check, replay}
-use Rattle.vr_cli.specs.declared.words.Command.{Command}
-use Rattle.vr_cli.specs.declared.words.Command.TheVariants.{Hash, Check, Replay}
+-- The commands that `command` does.
+use Rattle.std.specs.Prelude.{true, false}
+use Rattle.vr_words.specs.Grammar.{Task, make, serve}
+use Rattle.vr_words.specs.declared.commands.Verbs.{Verbs}
 
--- the task of a command, without where its words lie in memory
-abbrev pub task_of : Command → Task
-task_of (Hash policy) = hash policy.now
-task_of (Check policy) = check policy.now
-task_of (Replay policy script) = replay policy.now script.now
+-- all but `make` and `serve`
+abbrev pub commands : Verbs
+commands = record {
+  hash = true;
+  check = true;
+  flows = true;
+  replay = true;
+  make = false;
+  serve = false;
+}
 
--- where a replay begins under a policy with this hash
-abbrev pub started : CheckedData × List ℕ → Origin
-started said = origin_under said.0 said.1
+-- a task of one of these commands
+abbrev pub IsOurs : Task → Type 0
+IsOurs (make count) = ⊥
+IsOurs (serve serving policy keys) = ⊥
+IsOurs task = Unit {0}

@@ -4,7 +4,10 @@ use Rattle.std.specs.Io.KnownBytes.{Appends, Keeps}
 use Rattle.vr_base.specs.Causes.{Rose}
 use Rattle.vr_base.specs.Checks.{Told, nothing, exactly, never, GivesBy}
 use Rattle.vr_base.specs.Outside.{FolderCounts, AppendsPrefix}
-use Rattle.vr_cli.specs.Outputs.{Tested, NamedFiles}
+use Rattle.vr_report.specs.Flows.{IsFlowText}
+use Rattle.vr_cli.specs.Gathering.{PutsOne, PutsPrefixOfOne}
+use Rattle.vr_cli.specs.Outputs.{Tested, NamedFiles, Output, text, flows_under, replay_of}
+use Rattle.vr_cli.specs.Replays.{IsReplaySoFar, IsReplayText}
 use Rattle.vr_cli.specs.declared.status.Status.{Status}
 use Rattle.vr_cli.specs.declared.status.Status.TheVariants.{Usage, PolicyRefused, ScriptRefused, Absent, ReadFault, WriteFault, WantOfMemory}
 use Rattle.vr_cli.specs.declared.status.Status.TheVariants as statuses
@@ -70,20 +73,37 @@ IsQuiet WriteFault = ⊥
 IsQuiet WantOfMemory = ⊥
 IsQuiet status = Unit {0}
 
--- the answer is a text, and all of it was written
-abbrev pub IsWritten : Tested (List ℕ) → Option (List ℕ) → Option (List ℕ) → Type 0
-IsWritten answer old new = MatchResult answer (Appends old new) (λ _. ⊥)
+-- all of an output was written
+abbrev pub PutsAll : Option (List ℕ) → Option (List ℕ) → Output → Type 0
+PutsAll old new (text bytes) = Appends old new bytes
+PutsAll old new (flows_under checked) = PutsOne old new (IsFlowText checked)
+PutsAll old new (replay_of origin script) = PutsOne old new (IsReplayText origin script)
 
--- the answer is a text, and a prefix of it was written
-abbrev pub IsCut : Tested (List ℕ) → Option (List ℕ) → Option (List ℕ) → Type 0
-IsCut answer old new = MatchResult answer (AppendsPrefix old new) (λ _. ⊥)
+-- A prefix of an output was written; of a replay that was cut off, of what the calls came to that were made.
+abbrev pub PutsPrefix : Option (List ℕ) → Option (List ℕ) → Output → Type 0
+PutsPrefix old new (text bytes) = AppendsPrefix old new bytes
+PutsPrefix old new (flows_under checked) = PutsPrefixOfOne old new (IsFlowText checked)
+PutsPrefix old new (replay_of origin script) = PutsPrefixOfOne old new (IsReplaySoFar origin script)
 
--- of an answer that is a text a prefix was written, and of a refusal nothing
-abbrev pub IsAtMostBegun : Tested (List ℕ) → Option (List ℕ) → Option (List ℕ) → Type 0
-IsAtMostBegun answer old new = MatchResult answer (AppendsPrefix old new) (λ _. Keeps old new)
+-- a prefix of an output was written before memory ran out, and of flows nothing
+abbrev pub PutsSome : Option (List ℕ) → Option (List ℕ) → Output → Type 0
+PutsSome old new (flows_under checked) = Keeps old new
+PutsSome old new output = PutsPrefix old new output
+
+-- the answer is an output, and all of it was written
+abbrev pub IsWritten : Tested Output → Option (List ℕ) → Option (List ℕ) → Type 0
+IsWritten answer old new = MatchResult answer (PutsAll old new) (λ _. ⊥)
+
+-- the answer is an output, and a prefix of it was written
+abbrev pub IsCut : Tested Output → Option (List ℕ) → Option (List ℕ) → Type 0
+IsCut answer old new = MatchResult answer (PutsPrefix old new) (λ _. ⊥)
+
+-- of an answer that is an output a prefix was written, and of a refusal nothing
+abbrev pub IsAtMostBegun : Tested Output → Option (List ℕ) → Option (List ℕ) → Type 0
+IsAtMostBegun answer old new = MatchResult answer (PutsSome old new) (λ _. Keeps old new)
 
 -- what a status says of the answer and of what was written; the words are accepted
-abbrev pub SaysOf : Status → Tested (List ℕ) → Option (List ℕ) → Option (List ℕ) → Type 0
+abbrev pub SaysOf : Status → Tested Output → Option (List ℕ) → Option (List ℕ) → Type 0
 SaysOf statuses.Ok answer old new = IsWritten answer old new
 SaysOf WriteFault answer old new = IsCut answer old new
 SaysOf WantOfMemory answer old new = IsAtMostBegun answer old new
@@ -92,7 +112,7 @@ SaysOf (Usage index) answer old new = ⊥
 SaysOf refusal answer old new = answer ≡ Err refusal
 
 -- where the folder tells its files, what a status says of the answer over them
-abbrev pub SaysOver : Option NamedFiles → Status → (NamedFiles → Tested (List ℕ))
+abbrev pub SaysOver : Option NamedFiles → Status → (NamedFiles → Tested Output)
     → Option (List ℕ) → Option (List ℕ) → Type 0
 SaysOver files status answer old new = IfSome files (λ fs. SaysOf status (answer fs) old new)
 
@@ -109,9 +129,9 @@ status_of (Err status) = status
 
 -- ---- how a command ends
 
--- How a command ended whose text, or refusal, is the answer, where a sink had the old bytes and has the new ones.
+-- How a command ended whose output, or refusal, is the answer, where a sink had the old bytes and has the new ones.
 pub record Ends
-    (answer : Tested (List ℕ)) (status : Status) (old new : Option (List ℕ)) : Type 0 where
+    (answer : Tested Output) (status : Status) (old new : Option (List ℕ)) : Type 0 where
   -- at Ok the whole text was written
   pub done : status ≡ statuses.Ok → IsWritten answer old new
   -- a refusal is the answer
@@ -121,11 +141,11 @@ pub record Ends
   pub not_there : (word : ℕ) → status ≡ Absent word → answer ≡ Err (Absent word)
   -- an answer that is a refusal is the status, unless a read failed or memory ran out
   pub refused : (refusal : Status) → answer ≡ Err refusal → (status ≡ refusal) ⊎ IsBeforeText status
-  -- an answer that is a text is written whole, unless the outside failed or memory ran out
-  pub complete : (text : List ℕ) → answer ≡ Ok text → (status ≡ statuses.Ok) ⊎ IsOutside status
-  -- a write fails only where the answer is a text, and a prefix of it was written
+  -- an output is written whole, unless the outside failed or memory ran out
+  pub complete : (output : Output) → answer ≡ Ok output → (status ≡ statuses.Ok) ⊎ IsOutside status
+  -- a write fails only where the answer is an output, and a prefix of it was written
   pub cut_off : status ≡ WriteFault → IsCut answer old new
-  -- where memory ran out a prefix of the text was written, and of a refusal nothing
+  -- where memory ran out a prefix of the output was written, and of a refusal and of flows nothing
   pub out_of_memory : status ≡ WantOfMemory → IsAtMostBegun answer old new
 
 -- What made the status of a command, by the folder's counts and the sink's count of faults, each before and after.

@@ -21,3 +21,27 @@ abbrev pub Writes : {A E : Type 0}
     → Result A E → Option (List ℕ) → Option (List ℕ) → List ℕ → Type 0
 Writes result old new text =
     MatchResult result (λ _. Appends old new text) (λ _. AppendsPrefix old new text)
+
+-- ---- texts of which is known what they are
+
+-- a text of this kind was written whole
+abbrev pub PutsOne : Option (List ℕ) → Option (List ℕ) → (List ℕ → Type 0) → Type 0
+PutsOne old new IsText = (bytes : List ℕ) × IsText bytes × Appends old new bytes
+
+-- a prefix of a text of this kind was written
+abbrev pub PutsPrefixOfOne : Option (List ℕ) → Option (List ℕ) → (List ℕ → Type 0) → Type 0
+PutsPrefixOfOne old new IsText = (bytes : List ℕ) × IsText bytes × AppendsPrefix old new bytes
+
+-- A whole text was written; or an error came, and a prefix of a text that may break off.
+abbrev pub WritesOne : {A E : Type 0} → Result A E → Option (List ℕ) → Option (List ℕ)
+    → (List ℕ → Type 0) → (List ℕ → Type 0) → Type 0
+WritesOne result old new IsWhole IsSoFar =
+    MatchResult result (λ _. PutsOne old new IsWhole) (λ _. PutsPrefixOfOne old new IsSoFar)
+
+-- All lines came to what was held, and the rest was returned; or an error, and the sink gained a prefix of what was held
+-- and of the first lines.
+abbrev pub HandsInLines : {E : Type 0} → Result (List ℕ) E → Option (List ℕ) → Option (List ℕ)
+    → List ℕ → (List ℕ → Type 0) → (List ℕ → Type 0) → Type 0
+HandsInLines result old new held AreAll AreFirst =
+    MatchResult result (λ rest. (lines : List ℕ) × AreAll lines × Gathers old new held rest lines)
+    (λ _. (lines : List ℕ) × AreFirst lines × AppendsPrefix old new (held ++ lines))

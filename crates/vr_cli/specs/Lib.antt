@@ -5,6 +5,6 @@ pub mod Gathering
 pub mod MemFolders
 pub mod MemSinks
 pub mod Outputs
+pub mod Replays
 pub mod Rooms
 pub mod Statuses
-pub mod Words

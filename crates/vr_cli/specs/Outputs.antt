@@ -1,5 +1,5 @@
 -- What a task writes over the files of a folder, or the status of the first check that fails.
-use Rattle.std.specs.Prelude.{ℕ, List, [], ◌∷◌, ◌++◌, Result, Ok, nat_lt, length, codes, decimal}
+use Rattle.std.specs.Prelude.{ℕ, List, [], ◌∷◌, ◌++◌, Result, Ok, Err, nat_lt, length, codes, decimal}
 use Rattle.hex.specs.Hex.{encode_lower}
 use Rattle.sha2.specs.Sha256.{sha256}
 use Rattle.vr_base.specs.Checks.{◌>>=◌, or_fault, unless_fault, fault_if, result_map_err}
@@ -17,11 +17,11 @@ use Rattle.vr_policy_check.specs.Faults.{kind_number as rule_number}
 use Rattle.vr_policy_check.specs.Rules.{CheckedData, check_of}
 use Rattle.vr_policy_check.specs.declared.faults.CheckFault.{CheckFault}
 use Rattle.vr_report.specs.Script.{script_of, most_script}
-use Rattle.vr_report.specs.Texts.{replay_text}
 use Rattle.vr_report.specs.declared.script.Line.{Line}
-use Rattle.vr_cli.specs.Words.{Task, hash, check, replay}
+use Rattle.vr_words.specs.Grammar.{Task, hash, check, flows, replay}
+use Rattle.vr_words.specs.Options.{Placed}
 use Rattle.vr_cli.specs.declared.status.Status.{Status}
-use Rattle.vr_cli.specs.declared.status.Status.TheVariants.{PolicyRefused, ScriptRefused, Absent}
+use Rattle.vr_cli.specs.declared.status.Status.TheVariants.{Usage, PolicyRefused, ScriptRefused, Absent}
 
 -- what a check lets pass, or the status of the check that fails
 abbrev pub Tested : Type 0 → Type 0
@@ -31,9 +31,9 @@ Tested A = Result A Status
 abbrev pub NamedFiles : Type 0
 NamedFiles = List (List ℕ × List ℕ)
 
--- the bytes of the file that the word at this place names
-abbrev pub bytes_named : ℕ → List ℕ → NamedFiles → Tested (List ℕ)
-bytes_named place name files = or_fault (Absent place) (file_of name files)
+-- the bytes of the file that a word names
+abbrev pub bytes_named : Placed → NamedFiles → Tested (List ℕ)
+bytes_named word files = or_fault (Absent word.place) (file_of word.text files)
 
 -- a policy that its reading refuses, which is the first stage
 abbrev pub policy_refusal : PolicyFault → Status
@@ -61,20 +61,17 @@ counts_line policy =
 abbrev pub digits_of : List ℕ → List ℕ
 digits_of bytes = encode_lower (sha256 bytes)
 
--- how many steps all programs of a run may make together
-abbrev pub run_fuel : ℕ
-run_fuel = 50000000
-
--- where a replay begins under a checked policy with the hash of its file: without files
-abbrev pub origin_under : CheckedData → List ℕ → Origin
-origin_under policy digits =
-    record { policy = policy; hash = digits; fuel = run_fuel; opening = no_files }
-
--- where a replay begins under the policy that at most so many bytes say
-abbrev pub origin_from : ℕ → List ℕ → Tested Origin
-origin_from most bytes = do
+-- the checked policy that at most so many bytes say, and the hash of its file
+abbrev pub policy_from : ℕ → List ℕ → Tested (CheckedData × List ℕ)
+policy_from most bytes = do
   policy ← checked_from most bytes
-  Ok (origin_under policy (digits_of bytes))
+  Ok (policy, digits_of bytes)
+
+-- where a replay begins under a checked policy with the hash of its file: without files, and with so many steps for all
+-- programs of a run together
+abbrev pub origin_under : ℕ → CheckedData → List ℕ → Origin
+origin_under fuel policy digits =
+    record { policy = policy; hash = digits; fuel = fuel; opening = no_files }
 
 -- the calls of the script that at most so many bytes are
 abbrev pub script_in : ℕ → List ℕ → Tested (List Line)
@@ -86,19 +83,30 @@ digits_from most bytes =
     unless_fault (fault_if (nat_lt most (length bytes)) (PolicyRefused 1 (kind_number TooLong) 0))
     (digits_of bytes)
 
--- what a reading says of the file that the word at this place names
-abbrev pub in_file : {A : Type 0} → (List ℕ → Tested A) → ℕ → List ℕ → NamedFiles → Tested A
-in_file reading place name files = bytes_named place name files >>= reading
+-- what a reading says of the file that a word names
+abbrev pub in_file : {A : Type 0} → (List ℕ → Tested A) → Placed → NamedFiles → Tested A
+in_file reading word files = bytes_named word files >>= reading
 
--- The text of a task over the files of a folder.
-abbrev pub text_of : Task → NamedFiles → Tested (List ℕ)
-text_of (hash policy) files = do
-  digits ← in_file (digits_from most_policy) 1 policy files
-  Ok (digits ++ line_feed ∷ [])
-text_of (check policy) files = do
-  checked ← in_file (checked_from most_policy) 1 policy files
-  Ok (counts_line checked.policy)
-text_of (replay policy script) files = do
-  origin ← in_file (origin_from most_policy) 1 policy files
-  calls ← in_file (script_in most_script) 2 script files
-  Ok (replay_text origin calls)
+-- What a task writes: this text; the text of the flows of a policy, whatever sets tell them; or the text of the replay of
+-- a script, which the machine's replies make.
+pub data Output : Type 0 where
+  text : List ℕ → Output
+  flows_under : CheckedData → Output
+  replay_of : Origin → List Line → Output
+
+-- The output of a task over the files of a folder. A task of another command has none; no words ask for it.
+abbrev pub output_of : Task → NamedFiles → Tested Output
+output_of (hash policy) files = do
+  digits ← in_file (digits_from most_policy) policy files
+  Ok (text (digits ++ line_feed ∷ []))
+output_of (check policy) files = do
+  checked ← in_file (checked_from most_policy) policy files
+  Ok (text (counts_line checked.policy))
+output_of (flows policy) files = do
+  checked ← in_file (checked_from most_policy) policy files
+  Ok (flows_under checked)
+output_of (replay fuel policy script) files = do
+  said ← in_file (policy_from most_policy) policy files
+  calls ← in_file (script_in most_script) script files
+  Ok (replay_of (origin_under fuel said.0 said.1) calls)
+output_of task files = Err (Usage 0)

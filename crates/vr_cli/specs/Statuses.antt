@@ -1,6 +1,5 @@
 -- The exit status and the text of each status.
-use Rattle.std.specs.Prelude.{ℕ, List, [], ◌++◌, codes, decimal}
-use Rattle.vr_cli.specs.Words.{word_at}
+use Rattle.std.specs.Prelude.{ℕ, List, [], ◌++◌, codes, decimal, slice_get, unwrap_or}
 use Rattle.vr_cli.specs.declared.status.Status.{Status}
 use Rattle.vr_cli.specs.declared.status.Status.TheVariants as statuses
 
@@ -13,6 +12,10 @@ exit_code (statuses.Absent word) = 4
 exit_code statuses.ReadFault = 5
 exit_code statuses.WriteFault = 6
 exit_code statuses.WantOfMemory = 7
+
+-- the word at this place, or no text where there is none
+abbrev pub word_at : List (List ℕ) → ℕ → List ℕ
+word_at words place = unwrap_or (slice_get words place) []
 
 -- the text on standard error, over the words of the command line
 abbrev pub status_text : List (List ℕ) → Status → List ℕ

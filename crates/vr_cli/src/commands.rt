@@ -1,30 +1,33 @@
 ghost use Rattle.std.specs.Io.KnownBytes.{Keeps};
 ghost use Rattle.std.specs.Prelude.{◌≡◌, ℕ, ◌↔◌, map, string_bytes, IfOk, IfSome};
-ghost use Rattle.vr_cli.specs.Commands.{task_of};
+ghost use Rattle.vr_base.specs.Checks.{result_map};
+ghost use Rattle.vr_cli.specs.Commands.{commands, IsOurs};
 ghost use Rattle.vr_cli.specs.Endings.{Ends, HasCauses, IsCaused, IsQuiet, SaysOver, status_of};
-ghost use Rattle.vr_cli.specs.Outputs.{text_of, counts_line};
-ghost use Rattle.vr_cli.specs.Words.{Task, AskFor, IsWrongAt, hash, check, replay};
+ghost use Rattle.vr_cli.specs.Outputs.{output_of, counts_line};
 ghost use Rattle.vr_cli.specs.declared.status.Status.{Status};
+ghost use Rattle.vr_words.specs.Grammar.{Task, AskFor, IsWrongAt, hash, check, flows, replay};
+ghost use Rattle.vr_words.specs.Views.{placed, task_of};
 
 use crate::reading::{load_checked, load_hash, load_policy, load_script};
 use crate::replaying::write_replay;
 use crate::status::Status;
-use crate::words::{Command, parse};
 use std::alloc::{AllocError, Global};
 use vr_base::{Folder, Sink, write_all};
 use vr_policy_read::Policy;
+use vr_report::flow_text;
+use vr_words::{Command, Verbs, Word, parse};
 
 /// Writes the hash of a policy and a line feed.
 #[tactic(auto, using(crate::proofs::EndingLemmas::unchanged))]
 fn hash<F: Folder, O: Sink>(
     alloc: Global,
-    policy: &str,
+    policy: Word<'_>,
     folder: &mut F,
     out: &mut O,
 ) -> Result<(), Status>
     ensures same { F.files folder.new ≡ F.files folder.old }
-    ensures ends { SaysOver (F.files folder.old) (status_of result) (text_of (hash policy.now))
-        (O.written out.old) (O.written out.new) }
+    ensures ends { SaysOver (F.files folder.old) (status_of result)
+        (output_of (hash (placed policy.entry))) (O.written out.old) (O.written out.new) }
     ensures cause { IsCaused (status_of result) (F.counts folder.old) (F.counts folder.new)
         (O.faults out.old) (O.faults out.new) }
     ensures quiet { IsQuiet (status_of result) → Keeps (O.written out.old) (O.written out.new) }
@@ -40,13 +43,13 @@ fn hash<F: Folder, O: Sink>(
 #[tactic(auto, using(crate::proofs::EndingLemmas::unchanged))]
 fn check<F: Folder, O: Sink>(
     alloc: Global,
-    policy: &str,
+    policy: Word<'_>,
     folder: &mut F,
     out: &mut O,
 ) -> Result<(), Status>
     ensures same { F.files folder.new ≡ F.files folder.old }
-    ensures ends { SaysOver (F.files folder.old) (status_of result) (text_of (check policy.now))
-        (O.written out.old) (O.written out.new) }
+    ensures ends { SaysOver (F.files folder.old) (status_of result)
+        (output_of (check (placed policy.entry))) (O.written out.old) (O.written out.new) }
     ensures cause { IsCaused (status_of result) (F.counts folder.old) (F.counts folder.new)
         (O.faults out.old) (O.faults out.new) }
     ensures quiet { IsQuiet (status_of result) → Keeps (O.written out.old) (O.written out.new) }
@@ -68,37 +71,62 @@ fn counts_line(alloc: Global, policy: &Policy) -> Result<String, AllocError>
     format!(in alloc; "ok {identities} {programs} {pipelines} {pins}\n")
 }
 
-/// Replays a script under a policy and writes the text of it.
+/// Writes the flows of a policy that meets every rule. The text is made before any of it is written.
 #[tactic(auto, using(crate::proofs::EndingLemmas::unchanged))]
-fn replay<F: Folder, O: Sink>(
+fn flows<F: Folder, O: Sink>(
     alloc: Global,
-    policy: &str,
-    script: &str,
+    policy: Word<'_>,
     folder: &mut F,
     out: &mut O,
 ) -> Result<(), Status>
     ensures same { F.files folder.new ≡ F.files folder.old }
     ensures ends { SaysOver (F.files folder.old) (status_of result)
-        (text_of (replay policy.now script.now)) (O.written out.old) (O.written out.new) }
+        (output_of (flows (placed policy.entry))) (O.written out.old) (O.written out.new) }
+    ensures cause { IsCaused (status_of result) (F.counts folder.old) (F.counts folder.new)
+        (O.faults out.old) (O.faults out.new) }
+    ensures quiet { IsQuiet (status_of result) → Keeps (O.written out.old) (O.written out.new) }
+{
+    let checked = load_checked(alloc, folder, policy)?;
+    let text = flow_text(alloc, &checked)?;
+    write_all(out, text.as_slice())?;
+    Ok(())
+}
+
+/// Replays a script under a policy and writes the text of it.
+#[tactic(auto, using(crate::proofs::EndingLemmas::unchanged))]
+fn replay<F: Folder, O: Sink>(
+    alloc: Global,
+    fuel: u64,
+    policy: Word<'_>,
+    script: Word<'_>,
+    folder: &mut F,
+    out: &mut O,
+) -> Result<(), Status>
+    ensures same { F.files folder.new ≡ F.files folder.old }
+    ensures ends { SaysOver (F.files folder.old) (status_of result)
+        (output_of (replay fuel (placed policy.entry) (placed script.entry)))
+        (O.written out.old) (O.written out.new) }
     ensures cause { IsCaused (status_of result) (F.counts folder.old) (F.counts folder.new)
         (O.faults out.old) (O.faults out.new) }
     ensures quiet { IsQuiet (status_of result) → Keeps (O.written out.old) (O.written out.new) }
 {
     let (policy, hash) = load_policy(alloc, folder, policy)?;
     let script = load_script(alloc, folder, script)?;
-    write_replay(alloc, policy, hash, script, out)?;
+    write_replay(alloc, policy, hash, fuel, script, out)?;
     Ok(())
 }
 
+/// Does what is asked for.
 fn run<F: Folder, O: Sink>(
     alloc: Global,
     command: Command<'_>,
     folder: &mut F,
     out: &mut O,
 ) -> Result<(), Status>
+    requires ours { IsOurs (task_of command) }
     ensures same { F.files folder.new ≡ F.files folder.old }
     ensures ends { SaysOver (F.files folder.old) (status_of result)
-        (text_of (task_of command.entry)) (O.written out.old) (O.written out.new) }
+        (output_of (task_of command.entry)) (O.written out.old) (O.written out.new) }
     ensures cause { IsCaused (status_of result) (F.counts folder.old) (F.counts folder.new)
         (O.faults out.old) (O.faults out.new) }
     ensures quiet { IsQuiet (status_of result) → Keeps (O.written out.old) (O.written out.new) }
@@ -106,14 +134,45 @@ fn run<F: Folder, O: Sink>(
     match command {
         Command::Hash { policy } => hash(alloc, policy, folder, out),
         Command::Check { policy } => check(alloc, policy, folder, out),
-        Command::Replay { policy, script } => replay(alloc, policy, script, folder, out),
+        Command::Flows { policy } => flows(alloc, policy, folder, out),
+        Command::Replay {
+            fuel,
+            policy,
+            script,
+        } => replay(alloc, fuel, policy, script, folder, out),
+        Command::Make { .. } | Command::Serve { .. } => unreachable!(),
     }
 }
 
-/// Does what the words of a command line ask for: `hash POLICY` writes the SHA-256 of the policy's file, `check POLICY`
-/// writes `ok` and how many identities, programs, pipelines and hashes of files a policy has that meets every rule, and
-/// `replay POLICY SCRIPT` makes the calls of a script in order, from no files on, and writes a line for each and one for
-/// each file that is left. The words are those after the program's name; files are read from the folder by their names.
+/// What the words ask of the commands that are done here, or the place of the first word that is out of place.
+fn parse_ours(words: &[String]) -> Result<Command<'_>, u32>
+    ensures accepted { (task : Task) →
+        (result_map task_of result ≡ Ok task) ↔ AskFor commands task (map string_bytes words.now) }
+    ensures refused { (place : ℕ) →
+        (result ≡ Err place) ↔ IsWrongAt commands (map string_bytes words.now) place }
+    ensures ours { IfOk (result_map task_of result) IsOurs }
+{
+    let commands = Verbs {
+        hash: true,
+        check: true,
+        flows: true,
+        replay: true,
+        make: false,
+        serve: false,
+    };
+    parse(words, commands)
+}
+
+/// Does what the words of a command line ask for. The words are those after the program's name; files are read from the
+/// folder by their names.
+///
+/// - `hash POLICY` writes the SHA-256 of the policy's file.
+/// - `check POLICY` writes `ok` and how many identities, programs, pipelines and hashes of files a policy has that meets
+///   every rule.
+/// - `flows POLICY` writes a line for each identity of the policy, with the identities whose calls can lead to what it
+///   learns and the regions over which they do.
+/// - `replay POLICY SCRIPT` makes the calls of a script in order, from no files on, and writes a line for each and one for
+///   each file that is left. `--fuel N` says how many steps all programs of a run may make together.
 ///
 /// The checks come in this order, and the first that fails is the status: the words, the policy's file, what it says, the
 /// script's file, what it says. What the outside did is named by counts that rise.
@@ -127,12 +186,12 @@ pub fn command<F: Folder, O: Sink>(
     ensures same { F.files folder.new ≡ F.files folder.old }
 
     // The status is a faulty word's exactly where there is one, and where the words ask for a task, the status says of
-    // the text of this task, over the files of the folder, how much of it was written, or why there is none.
+    // the output of this task, over the files of the folder, how much of it was written, or why there is none.
     ensures usage { (place : ℕ) →
-        (result ≡ Status.Usage place) ↔ IsWrongAt (map string_bytes words.now) place }
-    ensures ends { (task : Task) → AskFor task (map string_bytes words.now) →
+        (result ≡ Status.Usage place) ↔ IsWrongAt commands (map string_bytes words.now) place }
+    ensures ends { (task : Task) → AskFor commands task (map string_bytes words.now) →
         IfSome (F.files folder.old) (λ files.
-        Ends (text_of task files) result (O.written out.old) (O.written out.new)) }
+        Ends (output_of task files) result (O.written out.old) (O.written out.new)) }
 
     // What the outside did.
     ensures causes { HasCauses result (F.counts folder.old) (F.counts folder.new)
@@ -141,7 +200,7 @@ pub fn command<F: Folder, O: Sink>(
     // A refusal and a fault of reading leave the sink as it was, whether the folder tells its files or not.
     ensures quiet { IsQuiet result → Keeps (O.written out.old) (O.written out.new) }
 {
-    match parse(words) {
+    match parse_ours(words) {
         Err(index) => Status::Usage { index },
         Ok(command) => match run(alloc, command, folder, out) {
             Ok(()) => Status::Ok,

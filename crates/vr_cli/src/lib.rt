@@ -11,7 +11,6 @@ mod mem_sink;
 mod reading;
 mod replaying;
 mod status;
-mod words;
 
 pub use commands::command;
 pub use disk::{DiskFolder, StdSink};

@@ -2,11 +2,11 @@ ghost use Rattle.std.specs.Prelude.{◌≡◌, take, IfErr};
 ghost use Rattle.vr_base.specs.Checks.{result_map, result_map_err};
 ghost use Rattle.vr_base.specs.Outside.{file_of};
 ghost use Rattle.vr_cli.specs.Endings.{Gives, GivesOver, HasReadCause, IsRefusal};
-ghost use Rattle.vr_cli.specs.Outputs.{bytes_named, in_file, checked_from, origin_from, rule_refusal, script_in, digits_from};
-ghost use Rattle.vr_cli.specs.Commands.{started};
+ghost use Rattle.vr_cli.specs.Outputs.{bytes_named, in_file, checked_from, policy_from, rule_refusal, script_in, digits_from};
 ghost use Rattle.vr_policy_check.specs.Rules.{check_of};
 ghost use Rattle.vr_policy_read.specs.Limits.{most_policy};
 ghost use Rattle.vr_report.specs.Script.{most_script};
+ghost use Rattle.vr_words.specs.Views.{placed};
 
 use crate::status::Status;
 use std::alloc::Global;
@@ -14,24 +14,24 @@ use vr_base::{Bytes, Folder, FolderFault};
 use vr_policy_check::{CheckFault, CheckKind, CheckedPolicy, check};
 use vr_policy_read::{MOST_POLICY, Policy, ReadFault, ReadKind, policy_hash, read_policy};
 use vr_report::{MOST_SCRIPT, Script, ScriptFault, read_script};
+use vr_words::Word;
 
-/// The first `most` bytes of the file that the word at this place names.
+/// The first `most` bytes of the file that a word names.
 #[tactic(auto, using(crate::proofs::FileLemmas::told_bytes, crate::proofs::FileLemmas::told_absent, crate::proofs::FileLemmas::told_freely))]
 fn read_file<F: Folder>(
     alloc: Global,
     folder: &mut F,
-    name: &str,
-    place: u32,
+    word: Word<'_>,
     most: usize,
 ) -> Result<Bytes, Status>
     ensures same { F.files folder.new ≡ F.files folder.old }
     ensures told { GivesOver (F.files folder.old) result (λ files.
-        result_map (take most) (bytes_named place name.now files)) }
+        result_map (take most) (bytes_named (placed word.entry) files)) }
     ensures cause { HasReadCause (F.counts folder.old) (F.counts folder.new) result }
 {
-    match folder.read(alloc, name, most) {
+    match folder.read(alloc, word.text, most) {
         Ok(bytes) => Ok(bytes),
-        Err(FolderFault::Absent) => Err(Status::Absent { word: place }),
+        Err(FolderFault::Absent) => Err(Status::Absent { word: word.place }),
         Err(FolderFault::Failed) => Err(Status::ReadFault),
         Err(FolderFault::OutOfMemory) => Err(Status::WantOfMemory),
     }
@@ -81,7 +81,7 @@ fn check_policy(alloc: Global, policy: Policy) -> Result<CheckedPolicy, Status>
 
 /// The policy that the bytes say, checked, and their hash.
 fn parse_policy(alloc: Global, bytes: &[u8]) -> Result<(CheckedPolicy, [u8; 64]), Status>
-    ensures answer { Gives (result_map started result) (origin_from most_policy bytes.now) }
+    ensures answer { Gives result (policy_from most_policy bytes.now) }
     ensures refusal { IfErr result IsRefusal }
 {
     let checked = parse_checked(alloc, bytes)?;
@@ -115,58 +115,66 @@ fn hash_policy(bytes: &[u8]) -> Result<[u8; 64], Status>
     Ok(policy_hash(bytes))
 }
 
-/// The policy in the file of this name, checked, and the hash of the file.
+/// The policy in the file that a word names, checked, and the hash of the file.
 #[tactic(auto, using(crate::proofs::FileLemmas::refusal_is_counted))]
 pub fn load_policy<F: Folder>(
     alloc: Global,
     folder: &mut F,
-    name: &str,
+    word: Word<'_>,
 ) -> Result<(CheckedPolicy, [u8; 64]), Status>
     ensures same { F.files folder.new ≡ F.files folder.old }
-    ensures told { GivesOver (F.files folder.old) (result_map started result)
-        (in_file (origin_from most_policy) 1 name.now) }
+    ensures told { GivesOver (F.files folder.old) result
+        (in_file (policy_from most_policy) (placed word.entry)) }
     ensures cause { HasReadCause (F.counts folder.old) (F.counts folder.new) result }
 {
-    let bytes = read_file(alloc, folder, name, 1, MOST_POLICY + 1)?;
+    let bytes = read_file(alloc, folder, word, MOST_POLICY + 1)?;
     parse_policy(alloc, bytes.as_slice())
 }
 
-/// The policy in the file of this name, checked.
+/// The policy in the file that a word names, checked.
 #[tactic(auto, using(crate::proofs::FileLemmas::refusal_is_counted))]
 pub fn load_checked<F: Folder>(
     alloc: Global,
     folder: &mut F,
-    name: &str,
+    word: Word<'_>,
 ) -> Result<CheckedPolicy, Status>
     ensures same { F.files folder.new ≡ F.files folder.old }
     ensures told { GivesOver (F.files folder.old) result
-        (in_file (checked_from most_policy) 1 name.now) }
+        (in_file (checked_from most_policy) (placed word.entry)) }
     ensures cause { HasReadCause (F.counts folder.old) (F.counts folder.new) result }
 {
-    let bytes = read_file(alloc, folder, name, 1, MOST_POLICY + 1)?;
+    let bytes = read_file(alloc, folder, word, MOST_POLICY + 1)?;
     parse_checked(alloc, bytes.as_slice())
 }
 
-/// The script in the file of this name.
+/// The script in the file that a word names.
 #[tactic(auto, using(crate::proofs::FileLemmas::refusal_is_counted))]
-pub fn load_script<F: Folder>(alloc: Global, folder: &mut F, name: &str) -> Result<Script, Status>
+pub fn load_script<F: Folder>(
+    alloc: Global,
+    folder: &mut F,
+    word: Word<'_>,
+) -> Result<Script, Status>
     ensures same { F.files folder.new ≡ F.files folder.old }
     ensures told { GivesOver (F.files folder.old) result
-        (in_file (script_in most_script) 2 name.now) }
+        (in_file (script_in most_script) (placed word.entry)) }
     ensures cause { HasReadCause (F.counts folder.old) (F.counts folder.new) result }
 {
-    let bytes = read_file(alloc, folder, name, 2, MOST_SCRIPT + 1)?;
+    let bytes = read_file(alloc, folder, word, MOST_SCRIPT + 1)?;
     parse_script(alloc, bytes.as_slice())
 }
 
-/// The hash of the policy file of this name.
+/// The hash of the policy file that a word names.
 #[tactic(auto, using(crate::proofs::FileLemmas::refusal_is_counted))]
-pub fn load_hash<F: Folder>(alloc: Global, folder: &mut F, name: &str) -> Result<[u8; 64], Status>
+pub fn load_hash<F: Folder>(
+    alloc: Global,
+    folder: &mut F,
+    word: Word<'_>,
+) -> Result<[u8; 64], Status>
     ensures same { F.files folder.new ≡ F.files folder.old }
     ensures told { GivesOver (F.files folder.old) result
-        (in_file (digits_from most_policy) 1 name.now) }
+        (in_file (digits_from most_policy) (placed word.entry)) }
     ensures cause { HasReadCause (F.counts folder.old) (F.counts folder.new) result }
 {
-    let bytes = read_file(alloc, folder, name, 1, MOST_POLICY + 1)?;
+    let bytes = read_file(alloc, folder, word, MOST_POLICY + 1)?;
     hash_policy(bytes.as_slice())
 }

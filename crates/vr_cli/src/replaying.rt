@@ -1,10 +1,10 @@
-ghost use Rattle.std.specs.Prelude.{◌≡◌, IfOk, OnOk, Some};
+ghost use Rattle.std.specs.Prelude.{◌≡◌, ◌∷◌, [], IfOk, Some};
 ghost use Rattle.vr_base.specs.Causes.{HasCauseOf};
-ghost use Rattle.vr_cli.specs.Gathering.{HandsIn, Writes};
+ghost use Rattle.vr_cli.specs.Gathering.{HandsIn, HandsInLines, WritesOne};
 ghost use Rattle.vr_cli.specs.Outputs.{origin_under};
-ghost use Rattle.vr_core.specs.Machine.{step};
+ghost use Rattle.vr_cli.specs.Replays.{AreCallLines, AreFirstLines, IsReplaySoFar, IsReplayText};
 ghost use Rattle.vr_files.specs.FileMaps.{no_files};
-ghost use Rattle.vr_report.specs.Texts.{call_line, script_lines, script_replay, files_text, replay_text};
+ghost use Rattle.vr_report.specs.Texts.{files_text};
 
 use crate::gathering::{TextFault, finish, gather, pass_on};
 use std::alloc::Global;
@@ -18,9 +18,6 @@ use vr_report::{Line, Script, add_call_line, add_file_line, add_policy_line};
 /// The one seat from which a script's calls come.
 const SEAT: u32 = 0;
 
-/// How many steps all programs of a run may make together.
-const RUN_FUEL: u64 = 50_000_000;
-
 /// Makes a call of the script and adds its line to the text. The answer is what is left to be written.
 fn write_call<K: Keeper, O: Sink>(
     book: &mut Book<K>,
@@ -29,11 +26,9 @@ fn write_call<K: Keeper, O: Sink>(
     out: &mut O,
 ) -> Result<Bytes, TextFault>
     requires never { (k : K) → K.faults k ≡ 0 }
-    ensures text { HandsIn result (O.written out.old) (O.written out.new) text
-        (call_line line.line line.who
-        (step book.old.origin book.old.files line.who line.call).reply) }
-    ensures files { OnOk result (book.new.files ≡
-        (step book.old.origin book.old.files line.who line.call).files) }
+    ensures lines { HandsInLines result (O.written out.old) (O.written out.new) text
+        (AreCallLines book.old.origin book.old.files (line ∷ []) book.new.files)
+        (AreFirstLines book.old.origin book.old.files (line ∷ [])) }
     ensures origin { book.new.origin ≡ book.old.origin }
     ensures cause { HasCauseOf TextFault.Failed (O.faults out.old) (O.faults out.new) result }
 {
@@ -50,7 +45,7 @@ fn write_call<K: Keeper, O: Sink>(
 }
 
 /// Makes the calls of the script in order, and adds a line for each.
-#[tactic(auto, using(crate::proofs::GatheringLemmas::reaches_none, crate::proofs::GatheringLemmas::reaches_all))]
+#[tactic(auto, using(crate::proofs::ReplayLemmas::called_none))]
 fn write_calls<K: Keeper, O: Sink>(
     book: &mut Book<K>,
     script: Script,
@@ -58,10 +53,9 @@ fn write_calls<K: Keeper, O: Sink>(
     out: &mut O,
 ) -> Result<Bytes, TextFault>
     requires never { (k : K) → K.faults k ≡ 0 }
-    ensures text { HandsIn result (O.written out.old) (O.written out.new) text
-        (script_lines book.old.origin book.old.files script) }
-    ensures files { OnOk result (book.new.files ≡
-        (script_replay book.old.origin book.old.files script).files) }
+    ensures lines { HandsInLines result (O.written out.old) (O.written out.new) text
+        (AreCallLines book.old.origin book.old.files script book.new.files)
+        (AreFirstLines book.old.origin book.old.files script) }
     ensures cause { HasCauseOf TextFault.Failed (O.faults out.old) (O.faults out.new) result }
 {
     let mut left = text;
@@ -87,19 +81,21 @@ fn write_files<O: Sink>(files: &Files, text: Bytes, out: &mut O) -> Result<Bytes
     Ok(left)
 }
 
-/// A book without calls over a keeper that has no rows and never fails.
+/// A book without calls and files, over a keeper that has no rows and never fails. All programs of a run may make as many
+/// steps together as there is fuel.
 fn start_over<K: Keeper + Drop>(
     alloc: Global,
     policy: CheckedPolicy,
     hash: [u8; 64],
+    fuel: u64,
     keeper: K,
 ) -> Result<Book<K>, NoMemory>
     requires empty { K.rows keeper ≡ Some no_files }
     requires never { (k : K) → K.faults k ≡ 0 }
-    ensures origin { IfOk result (λ book. book.origin ≡ origin_under policy hash) }
+    ensures origin { IfOk result (λ book. book.origin ≡ origin_under fuel policy hash) }
     ensures files { IfOk result (λ book. book.files ≡ no_files) }
 {
-    match Book::start(alloc, policy, hash, keeper, b"", RUN_FUEL) {
+    match Book::start(alloc, policy, hash, keeper, b"", fuel) {
         Ok(book) => Ok(book),
         Err((fault, _)) => match fault {
             StartFault::OutOfMemory => Err(NoMemory),
@@ -108,40 +104,44 @@ fn start_over<K: Keeper + Drop>(
     }
 }
 
-/// Replays the script over a keeper that has no rows and never fails, under a policy with this hash, and writes its text.
-fn write_over<K: Keeper + Drop, O: Sink>(
+/// Makes the calls of the script by a book without calls, whose keeper never fails, and writes the text of the replay.
+fn write_text<K: Keeper + Drop, O: Sink>(
     alloc: Global,
-    policy: CheckedPolicy,
-    hash: [u8; 64],
-    keeper: K,
+    book: Book<K>,
+    hash: &[u8; 64],
     script: Script,
     out: &mut O,
 ) -> Result<(), TextFault>
-    requires empty { K.rows keeper ≡ Some no_files }
     requires never { (k : K) → K.faults k ≡ 0 }
-    ensures text { Writes result (O.written out.old) (O.written out.new)
-        (replay_text (origin_under policy hash) script) }
+    requires fresh { book.files ≡ book.origin.opening }
+    requires digits { book.origin.hash ≡ hash.now }
+    ensures text { WritesOne result (O.written out.old) (O.written out.new)
+        (IsReplayText book.origin script) (IsReplaySoFar book.origin script) }
     ensures cause { HasCauseOf TextFault.Failed (O.faults out.old) (O.faults out.new) result }
 {
-    let text = add_policy_line(gather(alloc)?, &hash)?;
-    let mut book = start_over(alloc, policy, hash, keeper)?;
+    let mut book = book;
+    let text = add_policy_line(gather(alloc)?, hash)?;
     let text = write_calls(&mut book, script, text, out)?;
     let text = write_files(book.files(), text, out)?;
     finish(text, out)
 }
 
-/// Replays the script from no files on, under a policy with this hash, and writes its text.
+/// Replays the script from no files on, under a policy with this hash, and writes its text. All programs of a run may make
+/// as many steps together as there is fuel.
 pub fn write_replay<O: Sink>(
     alloc: Global,
     policy: CheckedPolicy,
     hash: [u8; 64],
+    fuel: u64,
     script: Script,
     out: &mut O,
 ) -> Result<(), TextFault>
-    ensures text { Writes result (O.written out.old) (O.written out.new)
-        (replay_text (origin_under policy hash) script) }
+    ensures text { WritesOne result (O.written out.old) (O.written out.new)
+        (IsReplayText (origin_under fuel policy hash) script)
+        (IsReplaySoFar (origin_under fuel policy hash) script) }
     ensures cause { HasCauseOf TextFault.Failed (O.faults out.old) (O.faults out.new) result }
 {
     let keeper = NeverFails::new(alloc, Rows::of(Vec::new(alloc)));
-    write_over(alloc, policy, hash, keeper, script, out)
+    let book = start_over(alloc, policy, hash, fuel, keeper)?;
+    write_text(alloc, book, &hash, script, out)
 }

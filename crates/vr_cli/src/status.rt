@@ -1,10 +1,9 @@
 ghost use Rattle.std.specs.Prelude.{◌≡◌, map, string_bytes, IfOk};
-ghost use Rattle.vr_cli.specs.Statuses.{exit_code, status_text};
-ghost use Rattle.vr_cli.specs.Words.{word_at};
+ghost use Rattle.vr_cli.specs.Statuses.{exit_code, status_text, word_at};
 
 use crate::gathering::TextFault;
 use std::alloc::{AllocError, Global};
-use vr_base::Failed;
+use vr_base::{Failed, NoMemory};
 
 /// How a command ended.
 #[derive(Clone, Copy, Debug, PartialEq, Eq)]
@@ -37,6 +36,18 @@ impl From<AllocError> for Status {
 
     /// Memory ran out.
     fn from(_refused: AllocError) -> Status {
+        Status::WantOfMemory
+    }
+}
+
+impl From<NoMemory> for Status {
+    ghost use Rattle.std.specs.Prelude.{◌≡◌};
+    ghost use Rattle.vr_cli.specs.declared.status.Status.TheVariants.{WantOfMemory};
+
+    ghost from_gives = { λ _ status. status ≡ WantOfMemory };
+
+    /// Memory ran out.
+    fn from(_refused: NoMemory) -> Status {
         Status::WantOfMemory
     }
 }

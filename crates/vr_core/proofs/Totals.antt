@@ -1,17 +1,21 @@
--- The totals of files, where one of them is replaced or made.
+-- The totals of files, where one of them is replaced, made or taken out.
 use Rattle.std.proofs.Common.{◌≡◌, ℕ, ◌+◌, ◌*◌, ◌<◌, ◌≤◌, Bool, true, false, cond, eqb, ◌&&◌, T, List, [], ◌∷◌, length, set, get_or, Option, None, Some, Ordering, refl, sym, ap, ◌∙◌, arith, All, length-set}
 use Rattle.std.proofs.Math.Nat.{mul-suc}
-use Rattle.std.specs.Prelude.{sum_by, bytes_eq, slice_get, Contains, option_and_then}
+use Rattle.std.specs.Prelude.{not, sum_by, bytes_eq, slice_get, Contains, option_and_then}
 use Rattle.std.proofs.lemmas.Option.{slice_get-get_or}
 use Rattle.std.proofs.lemmas.List.{get_or-set_same, get_or-set_other}
-use Rattle.std.proofs.lemmas.List.Elements.{All-cons, All-head, All-tail, All-nil}
+use Rattle.std.proofs.lemmas.List.Elements.{All-cons, All-filter, All-head, All-tail, All-nil}
 use Rattle.std.proofs.lemmas.List.Sums.{sum_by-cons}
-use Rattle.std.specs.Cmp.Lexicographic.{nat_list_cmp_total, bytes_decides}
-use Rattle.std.specs.Ordering.{is_lt, is_eq}
+use Rattle.std.specs.Cmp.Lexicographic.{nat_list_cmp_total, bytes_decides, texts_ties}
+use Rattle.std.specs.Ordering.{eq_by_cmp, is_lt, is_eq}
 use Rattle.std.specs.declared.cmp.Ordering.TheVariants.{Less, Equal, Greater}
-use Rattle.std.specs.FinMap.{IsAntisymmetric, slice_cmp-IsAntisymmetric, nat_cmp-IsAntisymmetric, put, find, is_sorted, entries, entries_sorted, entries-insert, get, get-entries, insert}
-use Rattle.std.specs.FinMap.Entries.{by_order, below_all}
+use Rattle.std.specs.FinMap.{put, find, is_sorted, entries, entries_sorted, entries-insert, get, get-entries, get-insert, get-remove, insert, remove, same_map}
+use Rattle.std.specs.FinMap.Entries.{by_order, below_all, is_sorted-where_key, same_entries}
+use Rattle.vr_files.specs.Changes.{changed}
+use Rattle.vr_files.specs.Entries.{without}
 use Rattle.vr_files.specs.FileMaps.{FileMap, path_cmp}
+use Rattle.vr_files.proofs.EntryLemmas.{paths_total, one_path}
+use Rattle.vr_files.proofs.MapLemmas.{find-without}
 use Rattle.vr_policy_check.specs.Rules.{CheckedData}
 use Rattle.std.proofs.lemmas.Bool.Decides.{nat_tests}
 use Rattle.std.specs.Prelude.{MatchOption}
@@ -22,9 +26,6 @@ use Rattle.vr_rights.specs.Regions.{region_of, region_number, place_of}
 use Rattle.vr_rights.specs.Tables.{RegionsData, IsRegionsOf, names_of}
 use Rattle.vr_rights.proofs.RegionLemmas.{place_is, region_is, region_has, region_none, none_covers}
 use Rattle.vr_core.specs.Quotas.{size_where, total_where, is_in, region, total_of, AreTotals}
-
-one_path : IsAntisymmetric path_cmp
-one_path = slice_cmp-IsAntisymmetric nat_cmp-IsAntisymmetric
 
 both : (a b : Bool) → T (a && b) → T a × T b
 both true b h = (tt, h)
@@ -42,6 +43,29 @@ none_before k x (e ∷ es) p h =
     let parts = both (is_lt (path_cmp x e.0)) (below_all path_cmp x es) h in
     ap (λ (r : Ordering). cond (is_eq r) (Some e.1) (find path_cmp k es)) (nat_list_cmp_total.trans k x e.0 p (less _ parts.0))
     ∙ none_before k x es p parts.1
+
+tied : (path : List ℕ) → eq_by_cmp path_cmp path path ≡ true
+tied path = sym (texts_ties path path) ∙ (bytes_decides path path).1 refl
+
+twice : (b : Bool) (body old : Option (List ℕ)) → cond b body (cond b None old) ≡ cond b body old
+twice true body old = refl
+twice false body old = refl
+
+-- a file that is taken out and then put there
+put_back : (files : FileMap) (path body : List ℕ) → insert (remove files path) path body ≡ insert files path body
+put_back files path body = same_map paths_total one_path _ _ (λ q.
+    get-insert paths_total (remove files path) path body q
+    ∙ ap (cond (eq_by_cmp path_cmp q path) (Some body)) (get-remove paths_total files path q)
+    ∙ twice (eq_by_cmp path_cmp q path) (Some body) (get files q)
+    ∙ sym (get-insert paths_total files path body q))
+
+-- the entries without a file
+entries-remove : (files : FileMap) (path : List ℕ) → entries (remove files path) ≡ without path (entries files)
+entries-remove files path =
+    same_entries path_cmp paths_total one_path (entries (remove files path)) (without path (entries files)) (entries_sorted (remove files path))
+    (is_sorted-where_key path_cmp (λ p. not (eq_by_cmp path_cmp path p)) (entries files) (entries_sorted files))
+    (λ q. sym (get-entries (remove files path) q) ∙ get-remove paths_total files path q
+    ∙ ap (cond (eq_by_cmp path_cmp q path) None) (get-entries files q) ∙ sym (find-without path q (entries files)))
 
 module _ (test : List ℕ → Bool) where
   -- what a path's file counts, where there is one
@@ -76,6 +100,23 @@ module _ (test : List ℕ → Bool) where
       rw (entries-insert nat_list_cmp_total files path body, get-entries files path)
       (sizes-put path body (entries files) (entries_sorted files))
 
+  -- the total after a file was taken out, which putting it back shows
+  total-remove : (files : FileMap) (path : List ℕ) → total_where test (remove files path) + size_at path (get files path) ≡ total_where test files
+  total-remove files path =
+      let gone : get (remove files path) path ≡ None = get-remove paths_total files path path ∙ ap (λ b. cond b None (get files path)) (tied path) in
+      let back : insert (remove files path) path [] ≡ insert files path [] = put_back files path [] in
+      let again = total-insert (remove files path) path [] in
+      let whole = total-insert files path [] in
+      let same : total_where test (insert (remove files path) path []) ≡ total_where test (insert files path []) = ap (λ (m : FileMap). total_where test m) back in
+      let none : size_at path (get (remove files path) path) ≡ 0 = ap (size_at path) gone in
+      omega (arith, again, whole, same, none)
+
+  -- the total after a change
+  pub total-changed : (files : FileMap) (path : List ℕ) (body : Option (List ℕ))
+      → total_where test (changed files path body) + size_at path (get files path) ≡ total_where test files + size_at path body
+  total-changed files path (Some body) = total-insert files path body
+  total-changed files path None = let e = total-remove files path in omega (arith, e)
+
   counted : (b : Bool) (n : ℕ) → cond b n 0 ≤ n
   counted true n = omega arith
   counted false n = omega arith
@@ -87,6 +128,11 @@ module _ (test : List ℕ → Bool) where
       let head = All-head (λ (file : List ℕ × List ℕ). length file.1 ≤ most) e es h in
       let rest = total_most most es (All-tail (λ (file : List ℕ × List ℕ). length file.1 ≤ most) e es h) in
       rw (mul-suc most (length es)) (omega (arith, sum_by-cons (size_where test) e es, counted (test e.0) (length e.1), head, rest))
+
+-- how many bytes a file has, 0 where there is none
+abbrev pub size_of : Option (List ℕ) → ℕ
+size_of None = 0
+size_of (Some bytes) = length bytes
 
 -- files that are small stay so where a small one is put among them
 small-put : (most : ℕ) (k v : List ℕ) (es : List (List ℕ × List ℕ)) → All (λ file. length file.1 ≤ most) es → length v ≤ most
@@ -104,35 +150,41 @@ pub small-insert : (most : ℕ) (files : FileMap) (path body : List ℕ) → All
     → All (λ file. length file.1 ≤ most) (entries (insert files path body))
 small-insert most files path body h small = rw (entries-insert nat_list_cmp_total files path body) (small-put most path body (entries files) h small)
 
+-- no change makes a file of files that are small larger than its body
+pub small-changed : (most : ℕ) (files : FileMap) (path : List ℕ) (body : Option (List ℕ)) → All (λ file. length file.1 ≤ most) (entries files) → size_of body ≤ most
+    → All (λ file. length file.1 ≤ most) (entries (changed files path body))
+small-changed most files path (Some body) h small = small-insert most files path body h small
+small-changed most files path None h small =
+    rw (entries-remove files path) (All-filter (λ (e : List ℕ × List ℕ). not (eq_by_cmp path_cmp path e.0)) (λ (file : List ℕ × List ℕ). length file.1 ≤ most) (entries files) h)
+
 -- ---- the totals of regions
 
-module _ (policy : CheckedData) (names : List (List ℕ)) (ordered : IsOrdered names) (files : FileMap) (path body : List ℕ) where
-  -- how many bytes the file at the path has
-  abbrev pub old_size : Option (List ℕ) → ℕ
-  old_size None = 0
-  old_size (Some bytes) = length bytes
-
+module _ (policy : CheckedData) (names : List (List ℕ)) (ordered : IsOrdered names) (files : FileMap) (path : List ℕ) (body : Option (List ℕ)) where
   abbrev pub after : FileMap
-  after = insert files path body
+  after = changed files path body
+
+  outside_size : (name : List ℕ) (file : Option (List ℕ)) → is_in policy name path ≡ false → size_at (is_in policy name) path file ≡ 0
+  outside_size name None out = refl
+  outside_size name (Some bytes) out = rw out refl
+
+  inside_size : (name : List ℕ) (file : Option (List ℕ)) → is_in policy name path ≡ true → size_at (is_in policy name) path file ≡ size_of file
+  inside_size name None inside = refl
+  inside_size name (Some bytes) inside = rw inside refl
 
   not_in : (name : List ℕ) → is_in policy name path ≡ false → total_of policy after name ≡ total_of policy files name
-  not_in name out = by_old (get files path) (total-insert (is_in policy name) files path body)
-    where
-      by_old : (old : Option (List ℕ)) → total_where (is_in policy name) (insert files path body) + size_at (is_in policy name) path old
-          ≡ total_where (is_in policy name) files + size_where (is_in policy name) (path, body)
-          → total_of policy after name ≡ total_of policy files name
-      by_old None h = let e = rw out at h in omega (arith, e)
-      by_old (Some bytes) h = let e = rw out at h in omega (arith, e)
+  not_in name out =
+      let sum = total-changed (is_in policy name) files path body in
+      let old = outside_size name (get files path) out in
+      let new = outside_size name body out in
+      omega (arith, sum, old, new)
 
   pub in_region : (name : List ℕ) → is_in policy name path ≡ true
-      → total_of policy after name + old_size (get files path) ≡ total_of policy files name + length body
-  in_region name inside = by_old (get files path) (total-insert (is_in policy name) files path body)
-    where
-      by_old : (old : Option (List ℕ)) → total_where (is_in policy name) (insert files path body) + size_at (is_in policy name) path old
-          ≡ total_where (is_in policy name) files + size_where (is_in policy name) (path, body)
-          → total_of policy after name + old_size old ≡ total_of policy files name + length body
-      by_old None h = let e = rw inside at h in omega (arith, e)
-      by_old (Some bytes) h = let e = rw inside at h in omega (arith, e)
+      → total_of policy after name + size_of (get files path) ≡ total_of policy files name + size_of body
+  in_region name inside =
+      let sum = total-changed (is_in policy name) files path body in
+      let old = inside_size name (get files path) inside in
+      let new = inside_size name body inside in
+      omega (arith, sum, old, new)
 
   one_name : (i j : ℕ) → i < length names → j < length names → get_or names i [] ≡ get_or names j [] → i ≡ j
   one_name i j h k e =
@@ -156,7 +208,7 @@ module _ (policy : CheckedData) (names : List (List ℕ)) (ordered : IsOrdered n
 
   -- the totals with that of the path's region changed
   pub totals_here : (totals : List ℕ) (place new : ℕ) → AreTotals policy names files totals → place < length names
-      → region policy path ≡ Some (get_or names place []) → new + old_size (get files path) ≡ get_or totals place 0 + length body
+      → region policy path ≡ Some (get_or names place []) → new + size_of (get files path) ≡ get_or totals place 0 + size_of body
       → AreTotals policy names after (set totals place new)
   totals_here totals place new are within here sums = record {
     all = length-set totals place new ∙ are.all;

@@ -1,10 +1,10 @@
 -- Files under a policy, with the totals of its regions.
-use Rattle.std.specs.Prelude.{◌≡◌, ℕ, ◌≤◌, List, [], ◌∷◌, length, All, Some}
+use Rattle.std.specs.Prelude.{ℕ, ◌<◌, ◌≤◌, List, length, All}
 use Rattle.std.specs.FinMap.{entries}
-use Rattle.vr_files.specs.Changes.{Change}
 use Rattle.vr_files.specs.FileMaps.{FileMap, FileTable}
 use Rattle.vr_policy_check.specs.Rules.{CheckedData}
 use Rattle.vr_rights.specs.Tables.{RegionsData, IsRegionsOf}
+use Rattle.vr_exec.specs.Loaded.{HasProgramFiles}
 use Rattle.vr_core.specs.Quotas.{AreTotals}
 
 -- a policy, and files under it
@@ -18,8 +18,7 @@ pub record KeepsTotals (policy : CheckedData) (table : RegionsData) (files : Fil
   pub totals : AreTotals policy table.names files sums
   pub small : All (λ file. length file.1 ≤ 16777216) (entries files)
 
--- The only change is to keep a body of this size at a path.
-pub record IsOneChange (path : List ℕ) (size : ℕ) (changes : List Change) : Type 0 where
-  pub body : List ℕ
-  pub only : changes ≡ (path, Some body) ∷ []
-  pub sized : length body ≡ size
+-- The run of the pipeline at a place may start: the policy lists it, and its program files are there.
+pub record IsReady (policy : CheckedData) (files : FileMap) (place : ℕ) : Type 0 where
+  pub listed : place < length policy.policy.pipelines
+  pub there : HasProgramFiles policy place files

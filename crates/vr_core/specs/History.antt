@@ -1,13 +1,14 @@
--- Histories: the calls that were made, with their replies. A history is legal where its replies are those to
--- which the machine's replay of its calls comes.
+-- Histories: the calls that were made, with their replies. A history is legal where the machine's replay of its calls
+-- comes to its replies.
 use Rattle.std.specs.Prelude.{◌≡◌, ℕ, Bool, is_some, IsTrue, IsFalse, Option, IfSome, List, [], ◌∷◌, ◌++◌, map, All, Result, Ok, Err}
 use Rattle.std.specs.Option.{ForSome}
 use Rattle.vr_base.specs.declared.calls.Call.{Call}
 use Rattle.vr_base.specs.declared.calls.Reply.{Reply}
 use Rattle.vr_base.specs.declared.calls.Entry.{Entry}
 use Rattle.vr_files.specs.FileMaps.{FileMap}
+use Rattle.vr_policy_check.specs.Checked.{IsChecked}
 use Rattle.vr_policy_check.specs.Rules.{CheckedData}
-use Rattle.vr_core.specs.Machine.{Origin, Replay, replay, step, effect}
+use Rattle.vr_core.specs.Machine.{Origin, Replays, IsStep, effect}
 use Rattle.vr_core.specs.Replies.{is_made}
 
 -- the entry of a call
@@ -22,18 +23,15 @@ calls_of history = map (λ e. (e.who, e.call)) history
 abbrev pub replies_of : List Entry → List Reply
 replies_of history = map (λ e. e.reply) history
 
--- what the calls of a history come to, once more
-abbrev pub replay_of : Origin → List Entry → Replay
-replay_of origin history = replay origin origin.opening (calls_of history)
-
--- Each reply is the machine's, on the files that the calls before it left, and each call was made.
-pub record IsLegal (origin : Origin) (history : List Entry) : Type 0 where
-  pub replies : replies_of history ≡ (replay_of origin history).replies
+-- The calls of a history were made, and come to its replies and these files.
+pub record IsCurrent (origin : Origin) (history : List Entry) (files : FileMap) : Type 0 where
+  pub replayed : Replays origin origin.opening (calls_of history)
+      (record { replies = replies_of history; files = files })
   pub made : All (λ e. IsTrue (is_made e.reply)) history
 
--- the files after a history
-abbrev pub files_after : Origin → List Entry → FileMap
-files_after origin history = (replay_of origin history).files
+-- each reply of a history is the machine's, on the files that the calls before it left
+abbrev pub IsLegal : Origin → List Entry → Type 0
+IsLegal origin history = (files : FileMap) × IsCurrent origin history files
 
 -- What a book stands for: where its history began, the history, the files after it, and the keeper of the files.
 pub record BookState (K : Type 0) : Type 0 where
@@ -51,14 +49,10 @@ book_state policy hash fuel opening journal files keeper = record {
   keeper = keeper;
 }
 
--- The journal is legal, and the files are those after it.
-pub record IsCurrent (origin : Origin) (journal : List Entry) (files : FileMap) : Type 0 where
-  pub legal : IsLegal origin journal
-  pub current : files ≡ files_after origin journal
-
--- The journal is legal, the files are those after it, and the keeper was loaded. Where it tells its rows, they are the
--- files.
+-- The policy passed the rules, the journal is legal, the files are those after it, and the keeper was loaded. Where it
+-- tells its rows, they are the files.
 pub record IsBook {K : Type 0} (rows : K → Option FileMap) (is_loaded : K → Bool) (book : BookState K) : Type 0 where
+  pub checked : IsChecked book.origin.policy
   pub history : IsCurrent book.origin book.journal book.files
   pub loaded : IsTrue (is_loaded book.keeper)
   pub kept : ForSome (rows book.keeper) (λ kept. kept ≡ book.files)
@@ -67,7 +61,7 @@ pub record IsBook {K : Type 0} (rows : K → Option FileMap) (is_loaded : K → 
 -- machine's, and the journal has its entry at the end; else neither changed.
 pub record Steps {K : Type 0} (old new : BookState K) (seat who : ℕ) (call : Call) (reply : Reply) : Type 0 where
   pub origin : new.origin ≡ old.origin
-  pub outcome : IsTrue (is_made reply) → step old.origin old.files who call ≡ effect reply new.files
+  pub outcome : IsTrue (is_made reply) → IsStep old.origin old.files who call (effect reply new.files)
   pub made : IsTrue (is_made reply) → new.journal ≡ old.journal ++ entry seat who call reply ∷ []
   pub journal : IsFalse (is_made reply) → new.journal ≡ old.journal
   pub files : IsFalse (is_made reply) → new.files ≡ old.files

@@ -6,3 +6,5 @@ pub mod Opening
 pub mod History
 pub mod Crashes
 pub mod Plans
+pub mod Starts
+pub mod Isolation

@@ -1,17 +1,21 @@
-ghost use Rattle.std.specs.Prelude.{◌≡◌, ◌≢◌, ◌≤◌, ◌⊎◌, ℕ, [], ◌∷◌, ◌++◌, IfOk, IfErr, OnOk, OnErr, IsTrue, length, Some, Ok, Err};
+ghost use Rattle.std.specs.Prelude.{◌≡◌, ◌≢◌, ◌≤◌, ◌⊎◌, ℕ, ◌++◌, ◌∷◌, [], IfOk, IfErr, OnOk, OnErr, IsTrue, length, Ok, Err};
 ghost use Rattle.std.specs.FinMap.{insert};
 ghost use Rattle.std.specs.Result.{result_unwrap_or};
 ghost use Rattle.vr_base.specs.Causes.{HasCauseOf, Rose};
-ghost use Rattle.vr_base.specs.Checks.{value_of, result_map, result_map_err};
+ghost use Rattle.vr_base.specs.Checks.{result_map, result_map_err};
 ghost use Rattle.vr_core.specs.Crashes.{StepsSafely};
 ghost use Rattle.vr_core.specs.History.{IsBook, Opens, Steps, TellsAsBefore, entry, keeper_of};
-ghost use Rattle.vr_core.specs.Machine.{step, effect, granted_effect, body_for, path_for, files_with, pipeline_for, bytes_at};
+ghost use Rattle.vr_core.specs.Isolation.{IsIsolated, IsIsolatedHistory};
+ghost use Rattle.vr_core.specs.Machine.{IsNextFiles, IsRunStep, IsStep, append_effect, body_for, bytes_at, effect, ended_effect, files_with, hash_effect, read_effect, run_place, write_effect};
 ghost use Rattle.vr_core.specs.Opening.{ComesFromRows};
-ghost use Rattle.vr_core.specs.Plans.{plan_effect, IsUnstored};
-ghost use Rattle.vr_core.specs.Replies.{Gives, IsUnkept, has_memory, is_made};
+ghost use Rattle.vr_core.specs.Plans.{AsksRightly, HasDifferences, plan_effect};
+ghost use Rattle.vr_core.specs.Replies.{Gives, GivesStep, IsKept, IsUnkept, is_made};
+ghost use Rattle.vr_core.specs.Starts.{StartsRightly};
+ghost use Rattle.vr_files.specs.Changes.{applied};
+ghost use Rattle.vr_files.specs.FileMaps.{FileMap};
 ghost use Rattle.vr_keeper.specs.Crashes.{LoadKeepsCrashes};
 
-use crate::checks::{check_caller, check_file, check_path, check_pipeline, check_size};
+use crate::checks::{check_caller, check_file, check_path, check_size};
 use crate::opening::{Opening, StartFault, load};
 use crate::policy_files::{PolicyFiles, one_change, size_at};
 use std::alloc::Global;
@@ -19,10 +23,10 @@ use std::marker::Model;
 use vr_base::{
     APPEND_RIGHTS, Bytes, Call, Entry, NoMemory, Path, READ_RIGHTS, Reply, WRITE_RIGHTS,
 };
-use vr_files::{FileBody, FileFault, Files};
+use vr_exec::Outcome;
+use vr_files::{Changes, FileBody, FileFault, Files};
 use vr_keeper::{KeepFault, Keeper};
 use vr_policy_check::CheckedPolicy;
-use vr_policy_read::Pipeline;
 
 /// The history of a runtime, the files after it, and the keeper that stores them. Contracts see where the history began,
 /// the journal of its calls, the files and the keeper. The journal is legal from the beginning on, and the files are those
@@ -59,8 +63,8 @@ impl<K: Keeper> Model for Book<K> {
 enum Plan {
     /// To answer, and to change no file.
     Answer(Reply),
-    /// To keep a body at a path, which is answered as stored.
-    Store { path: Path, body: FileBody },
+    /// To have changes kept, and then to answer.
+    Keep { reply: Reply, changes: Changes },
 }
 
 impl<K: Keeper> Book<K> {
@@ -90,6 +94,8 @@ impl<K: Keeper> Book<K> {
             (K.may_leave keeper) (K.may_leave (keeper_of result)) }
         ensures book { IfOk result (IsBook K.rows K.is_loaded) }
     {
+        // A checked policy keeps its rules, and the book with it.
+        let _listed = policy.policy();
         let mut keeper = keeper;
         match load(alloc, policy, &mut keeper, store) {
             Ok(Opening { files, opening }) => Ok(Book {
@@ -135,24 +141,28 @@ impl<K: Keeper> Book<K> {
 
     /// Makes a call of an identity, which came by a seat, and answers it. A call that is answered `OutOfMemory` or
     /// `Unavailable` was not made, and changes neither the journal nor the files. The keeper is asked at most once, when all
-    /// that needs memory is there. Runs of listed pipelines are not made yet, and are answered `Unavailable`.
+    /// that needs memory is there: for each write and append, and for a run that has changes.
     pub fn step(&mut self, seat: u32, who: u32, call: Call) -> Reply
         ensures steps { Steps self.old self.new seat who call result }
         ensures faults { K.faults self.old.keeper ≤ K.faults self.new.keeper }
         ensures cause { result ≡ Reply.Unavailable
-            → IsUnkept (step self.old.origin self.old.files who call) self.old.files
+            → IsUnkept (IsStep self.old.origin self.old.files who call) self.old.files
             (K.faults self.old.keeper) (K.faults self.new.keeper) }
         ensures tells { TellsAsBefore K.rows K.tells_crashes self.old.keeper self.new.keeper }
         ensures crashes { IsTrue (K.tells_crashes self.old.keeper)
             → StepsSafely (K.may_leave self.old.keeper) (K.may_leave self.new.keeper)
             (K.clock self.old.keeper) (K.clock self.new.keeper) self.old.files
-            (step self.old.origin self.old.files who call).files self.new.files result }
+            (IsNextFiles self.old.origin self.old.files who call) self.new.files result }
+        ensures starts { StartsRightly self.old.origin.policy self.old.files who call }
+        ensures isolated { IsTrue (is_made result)
+            → IsIsolated self.old.origin self.old.files who call (effect result self.new.files) }
+        ensures history { IsIsolatedHistory self.new.origin self.new.journal }
         ensures book { IsBook K.rows K.is_loaded self.new }
     {
         match self.plan(who, &call) {
-            Ok(Plan::Store { path, body }) => {
-                let stored = self.store(seat, who, call, path, body);
-                stored.unwrap_or(Reply::OutOfMemory)
+            Ok(Plan::Keep { reply, changes }) => {
+                let kept = self.keep(seat, who, call, reply, changes);
+                kept.unwrap_or(Reply::OutOfMemory)
             }
             Ok(Plan::Answer(reply)) => self.answer(seat, who, call, reply),
             Err(refusal) => self.answer(seat, who, call, refusal),
@@ -161,8 +171,9 @@ impl<K: Keeper> Book<K> {
 
     /// Answers a call, which changes no file, and adds its entry where it was made.
     fn answer(&mut self, seat: u32, who: u32, call: Call, reply: Reply) -> Reply
-        requires outcome { IsTrue (has_memory reply)
-            → step self.old.origin self.old.files who call ≡ effect reply self.old.files }
+        requires outcome { IsTrue (is_made reply)
+            → IsStep self.old.origin self.old.files who call (effect reply self.old.files) }
+        requires available { reply ≢ Reply.Unavailable }
         requires book { IsBook K.rows K.is_loaded self.old }
         ensures steps { Steps self.old self.new seat who call result }
         ensures unasked { self.new.keeper ≡ self.old.keeper }
@@ -180,7 +191,8 @@ impl<K: Keeper> Book<K> {
 
     /// Adds the entry of a call that was made and changed no file.
     fn record(&mut self, seat: u32, who: u32, call: Call, reply: &Reply) -> Result<(), NoMemory>
-        requires outcome { step self.old.origin self.old.files who call ≡ effect reply.now self.old.files }
+        requires outcome { IsStep self.old.origin self.old.files who call
+            (effect reply.now self.old.files) }
         requires made { IsTrue (is_made reply.now) }
         requires book { IsBook K.rows K.is_loaded self.old }
         ensures ok { OnOk result
@@ -201,17 +213,18 @@ impl<K: Keeper> Book<K> {
         Ok(())
     }
 
-    /// Has a body kept at a path, by the keeper first, and adds the entry of the call that asks for it.
-    fn store(
+    /// Has changes kept, by the keeper first, and adds the entry of the call that asks for them.
+    fn keep(
         &mut self,
         seat: u32,
         who: u32,
         call: Call,
-        path: Path,
-        body: FileBody,
+        reply: Reply,
+        changes: Changes,
     ) -> Result<Reply, NoMemory>
-        requires { step self.old.origin self.old.files who call
-            ≡ effect Reply.Stored (insert self.old.files path body) }
+        requires outcome { IsStep self.old.origin self.old.files who call
+            (effect reply (applied self.old.files changes)) }
+        requires asked { IsKept self.old.files (effect reply (applied self.old.files changes)) }
         ensures steps { Steps self.old self.new seat who call (result_unwrap_or result Reply.OutOfMemory) }
         ensures faults { K.faults self.old.keeper ≤ K.faults self.new.keeper }
         ensures cause { result ≡ Ok Reply.Unavailable
@@ -220,63 +233,132 @@ impl<K: Keeper> Book<K> {
         ensures crashes { IsTrue (K.tells_crashes self.old.keeper)
             → StepsSafely (K.may_leave self.old.keeper) (K.may_leave self.new.keeper)
             (K.clock self.old.keeper) (K.clock self.new.keeper) self.old.files
-            (step self.old.origin self.old.files who call).files self.new.files
+            (IsNextFiles self.old.origin self.old.files who call) self.new.files
             (result_unwrap_or result Reply.OutOfMemory) }
         ensures book { IsBook K.rows K.is_loaded self.new }
     {
         let alloc = *self.journal.allocator();
-        let size = body.len() as usize;
-        let changes = one_change(alloc, &path, body)?;
         self.journal.reserve(1)?;
-        self.files.reserve()?;
+        self.files.reserve(changes.as_slice().len())?;
+        let told = reply.copy()?;
         match self.keeper.apply(alloc, &changes) {
             Ok(()) => {}
             Err(KeepFault::Failed) => return Ok(Reply::Unavailable),
             Err(KeepFault::OutOfMemory) => return Err(NoMemory),
         }
-        self.files.keep(&path, size, changes);
+        self.files.keep(changes);
         let entry = Entry {
             seat,
             who,
             call,
-            reply: Reply::Stored,
+            reply: told,
         };
         self.journal.push(entry).unwrap();
-        Ok(Reply::Stored)
+        Ok(reply)
     }
 
     /// What is to be done for the call, or the refusal of the first check that fails.
     fn plan(&self, who: u32, call: &Call) -> Result<Plan, Reply>
-        ensures plan { Gives (result_map (plan_effect self.now.files) result)
-            (granted_effect self.now.origin self.now.files who call.now) }
-        ensures unstored { IfOk result IsUnstored }
+        ensures plan { GivesStep (IsStep self.now.origin self.now.files who call.now) self.now.files
+            (result_map (plan_effect self.now.files) result) }
+        ensures asks { IfOk result (AsksRightly self.now.files) }
         ensures book { IsBook K.rows K.is_loaded self.now }
     {
         let alloc = *self.journal.allocator();
         match call {
-            Call::Read { name } => {
-                let body = self.read(alloc, who, name.as_slice())?;
-                Ok(Plan::Answer(Reply::Read { body }))
-            }
+            Call::Read { name } => self.plan_read(alloc, who, name.as_slice()),
             Call::Write { name, body } => {
-                let path = check_path(alloc, self.policy(), who, name.as_slice(), WRITE_RIGHTS)?;
-                let body = self.written(alloc, &path, body.as_slice())?;
-                Ok(Plan::Store { path, body })
+                self.plan_write(alloc, who, name.as_slice(), body.as_slice())
             }
             Call::Append { name, body } => {
-                let path = check_path(alloc, self.policy(), who, name.as_slice(), APPEND_RIGHTS)?;
-                let body = self.extended(alloc, &path, body.as_slice())?;
-                Ok(Plan::Store { path, body })
+                self.plan_append(alloc, who, name.as_slice(), body.as_slice())
             }
-            Call::Run { pipeline } => {
-                self.run(who, *pipeline)?;
-                Ok(Plan::Answer(Reply::Unavailable))
-            }
-            Call::Hash => {
-                check_caller(self.policy(), who)?;
-                Ok(Plan::Answer(Reply::PolicyHash { digits: self.hash }))
-            }
+            Call::Run { pipeline } => self.plan_run(alloc, who, *pipeline),
+            Call::Hash => self.plan_hash(who),
         }
+    }
+
+    /// What is to be done for a read.
+    fn plan_read(&self, alloc: Global, who: u32, name: &[u8]) -> Result<Plan, Reply>
+        ensures plan { Gives (result_map (plan_effect self.now.files) result)
+            (read_effect self.now.origin self.now.files who name.now) }
+        ensures asks { IfOk result (AsksRightly self.now.files) }
+    {
+        let body = self.read(alloc, who, name)?;
+        Ok(Plan::Answer(Reply::Read { body }))
+    }
+
+    /// What is to be done for a write.
+    fn plan_write(&self, alloc: Global, who: u32, name: &[u8], bytes: &[u8]) -> Result<Plan, Reply>
+        ensures plan { Gives (result_map (plan_effect self.now.files) result)
+            (write_effect self.now.origin self.now.files who name.now bytes.now) }
+        ensures asks { IfOk result (AsksRightly self.now.files) }
+    {
+        let path = check_path(alloc, self.policy(), who, name, WRITE_RIGHTS)?;
+        let body = self.written(alloc, &path, bytes)?;
+        plan_store(alloc, path, body)
+    }
+
+    /// What is to be done for an append.
+    fn plan_append(&self, alloc: Global, who: u32, name: &[u8], piece: &[u8]) -> Result<Plan, Reply>
+        ensures plan { Gives (result_map (plan_effect self.now.files) result)
+            (append_effect self.now.origin self.now.files who name.now piece.now) }
+        ensures asks { IfOk result (AsksRightly self.now.files) }
+    {
+        let path = check_path(alloc, self.policy(), who, name, APPEND_RIGHTS)?;
+        let body = self.extended(alloc, &path, piece)?;
+        plan_store(alloc, path, body)
+    }
+
+    /// What is to be done for a call for the policy's hash.
+    fn plan_hash(&self, who: u32) -> Result<Plan, Reply>
+        ensures plan { Gives (result_map (plan_effect self.now.files) result)
+            (hash_effect self.now.origin self.now.files who) }
+        ensures asks { IfOk result (AsksRightly self.now.files) }
+    {
+        check_caller(self.policy(), who)?;
+        Ok(Plan::Answer(Reply::PolicyHash { digits: self.hash }))
+    }
+
+    /// What is to be done for a run, which is made here over a share of the files.
+    fn plan_run(&self, alloc: Global, who: u32, id: u32) -> Result<Plan, Reply>
+        ensures plan { GivesStep
+            (IsRunStep self.now.origin self.now.files
+            (run_place self.now.origin.policy self.now.files who id))
+            self.now.files (result_map (plan_effect self.now.files) result) }
+        ensures asks { IfOk result (AsksRightly self.now.files) }
+    {
+        let pipeline = self.files.check_run(who, id)?;
+        match self.files.run(alloc, pipeline, self.fuel) {
+            Ok(Outcome::Ended { code, out, changes }) => self.plan_ended(alloc, code, out, changes),
+            Ok(Outcome::BadProgram { path, why }) => Err(Reply::BadProgram { path, why }),
+            Ok(Outcome::Trapped { path, kind }) => Err(Reply::Trapped { path, kind }),
+            Ok(Outcome::OutOfFuel { path }) => Err(Reply::OutOfFuel { path }),
+            Err(NoMemory) => Err(Reply::OutOfMemory),
+        }
+    }
+
+    /// What is to be done for a run that ended with a code.
+    fn plan_ended(
+        &self,
+        alloc: Global,
+        code: u32,
+        out: Bytes,
+        changes: Changes,
+    ) -> Result<Plan, Reply>
+        requires { HasDifferences self.now.files changes }
+        ensures plan { Gives (result_map (plan_effect self.now.files) result)
+            (ended_effect self.now.origin.policy self.now.files code out changes) }
+        ensures asks { IfOk result (AsksRightly self.now.files) }
+    {
+        if changes.as_slice().is_empty() {
+            return Ok(Plan::Answer(Reply::Ended { code, out }));
+        }
+        self.files.check_quotas(alloc, &changes)?;
+        Ok(Plan::Keep {
+            reply: Reply::Ended { code, out },
+            changes,
+        })
     }
 
     /// The body that a read answers.
@@ -324,13 +406,20 @@ impl<K: Keeper> Book<K> {
             None => FileBody::from_slice(alloc, piece),
         }
     }
+}
 
-    /// The pipeline that the caller asks to run.
-    fn run(&self, who: u32, pipeline: u32) -> Result<&Pipeline, Reply>
-        ensures { Gives (value_of result) (pipeline_for self.now.origin.policy who pipeline) }
-    {
-        check_caller(self.policy(), who)?;
-        check_pipeline(self.policy(), pipeline)
+/// To have a body kept at a path, which is answered as stored.
+fn plan_store(alloc: Global, path: Path, body: FileBody) -> Result<Plan, Reply>
+    ensures plan { (files : FileMap) → Gives (result_map (plan_effect files) result)
+        (Ok (effect Reply.Stored (insert files path body))) }
+    ensures asks { (files : FileMap) → IfOk result (AsksRightly files) }
+{
+    match one_change(alloc, path, body) {
+        Ok(changes) => Ok(Plan::Keep {
+            reply: Reply::Stored,
+            changes,
+        }),
+        Err(NoMemory) => Err(Reply::OutOfMemory),
     }
 }
 

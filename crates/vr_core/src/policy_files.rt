@@ -1,20 +1,26 @@
-ghost use Rattle.std.specs.Prelude.{◌≡◌, ◌≤◌, ◌+◌, ◌*◌, ℕ, List, [], ◌∷◌, length, true, not, is_some, Some, Ok, IfOk, IfSome, OnOk};
+ghost use Rattle.std.specs.Prelude.{◌≡◌, ◌<◌, ◌≤◌, ◌+◌, ◌*◌, ◌^◌, ℕ, List, [], ◌∷◌, length, true, not, is_some, unwrap_or, Some, Ok, IfOk, IfSome, OnOk, slice_index_or};
+ghost use Rattle.std.specs.Option.{ForSome};
 ghost use Rattle.std.specs.FinMap.{insert, len};
 ghost use Rattle.vr_base.specs.Checks.{result_map};
-ghost use Rattle.vr_core.specs.Files.{IsOneChange, KeepsTotals};
-ghost use Rattle.vr_core.specs.Machine.{bytes_at, quota_check};
+ghost use Rattle.vr_core.specs.Files.{IsReady, KeepsTotals};
+ghost use Rattle.vr_core.specs.Machine.{bytes_at, quota_check, quotas_check, run_place};
 ghost use Rattle.vr_core.specs.Opening as opening;
 ghost use Rattle.vr_core.specs.Opening.{is_path, is_refused, opening_of};
-ghost use Rattle.vr_core.specs.Quotas.{is_over};
+ghost use Rattle.vr_core.specs.Quotas.{AreTotals, HasRoomIn, is_over, total_changed, total_fault};
 ghost use Rattle.vr_core.specs.Replies.{Gives};
-ghost use Rattle.vr_files.specs.Changes.{applied};
-ghost use Rattle.vr_files.specs.FileMaps.{no_files};
+ghost use Rattle.vr_base.specs.Checks.{unless_fault};
+ghost use Rattle.vr_exec.specs.Outcomes.{PipelineComesTo};
+ghost use Rattle.vr_files.specs.Changes.{AreDistinct, applied};
+ghost use Rattle.vr_files.specs.FileMaps.{FileMap, no_files};
+ghost use Rattle.vr_policy_check.specs.Rules.{CheckedData};
+ghost use Rattle.vr_rights.specs.Tables.{IsRegionsOf};
 
-use crate::checks::MOST_FILE;
+use crate::checks::{MOST_FILE, check_programs, check_start, find_caller, find_pipeline};
 use crate::opening::StartFault;
 use std::alloc::Global;
 use std::marker::Model;
 use vr_base::{Bytes, GrantName, NoMemory, Path, PathFault, Reply, parse_path};
+use vr_exec::{Outcome, run_pipeline};
 use vr_files::{Changes, FileBody, Files};
 use vr_keeper::Rows;
 use vr_policy_check::CheckedPolicy;
@@ -86,12 +92,92 @@ fn quota_reached(alloc: Global, region: &GrantName, size: u128) -> Result<(), Re
     }
 }
 
+/// That a new total of a region is no more than its quota, or than the old one.
+fn check_total(
+    alloc: Global,
+    regions: &Regions,
+    region: u32,
+    old: u128,
+    new: u128,
+) -> Result<(), Reply>
+    requires { region < length regions.now.names }
+    ensures { Gives result (unless_fault
+        (total_fault (slice_index_or regions.now.quotas region None)
+        (slice_index_or regions.now.names region []) old new) (tt {0})) }
+{
+    let Some(quota) = regions.quota_of(region) else {
+        return Ok(());
+    };
+    if !is_over(quota, old, new) {
+        return Ok(());
+    }
+    quota_reached(alloc, regions.name_of(region), new)
+}
+
+/// That each new total of the regions is no more than the quota, or than the old one.
+fn check_totals(alloc: Global, regions: &Regions, old: &[u128], new: &[u128]) -> Result<(), Reply>
+    requires old { length old.now ≡ length regions.now.names }
+    requires new { length new.now ≡ length regions.now.names }
+    ensures { (policy : CheckedData) (files others : FileMap) → IsRegionsOf policy regions.now
+        → AreTotals policy regions.now.names files old.now
+        → AreTotals policy regions.now.names others new.now
+        → Gives result (quotas_check policy files others) }
+{
+    for region in 0..regions.count() {
+        let place = region as usize;
+        check_total(alloc, regions, region, old[place], new[place])?;
+    }
+    Ok(())
+}
+
+/// The size of a body, 0 where there is none.
+fn size_of(body: &Option<FileBody>) -> u64
+    ensures size { result ≡ length (unwrap_or body.now []) }
+    ensures most { result ≤ 16777216 }
+{
+    match body {
+        Some(body) => body.len(),
+        None => 0,
+    }
+}
+
+/// Changes the total of a region in which a file gets another size. No region has none.
+fn change_total(totals: &mut [u128], region: Option<u32>, old: u64, new: u64)
+    requires { ForSome region (λ place. HasRoomIn totals.old place old new) }
+    ensures { totals.new ≡ total_changed totals.old region old new }
+{
+    if let Some(region) = region {
+        let total = totals[region as usize];
+        totals[region as usize] = total - old as u128 + new as u128;
+    }
+}
+
+/// Changes the totals of regions as changes do that are made to the files.
+fn change_totals(
+    policy: &CheckedPolicy,
+    regions: &Regions,
+    files: &Files,
+    totals: &mut [u128],
+    changes: &[(Path, Option<FileBody>)],
+)
+    requires kept { KeepsTotals policy.now regions.now files.now.map totals.old }
+    requires distinct { AreDistinct changes.now }
+    ensures { KeepsTotals policy.now regions.now (applied files.now.map changes.now) totals.new }
+{
+    // Since the files and the changes can be counted, the totals fit.
+    let _count = files.len();
+    for (path, body) in changes {
+        let region = regions.region_of(path);
+        change_total(totals, region, size_at(files, path), size_of(body));
+    }
+}
+
 /// The change that keeps a body at a path, and no other.
-pub fn one_change(alloc: Global, path: &Path, body: FileBody) -> Result<Changes, NoMemory>
-    ensures { IfOk result (λ changes. changes ≡ (path.now, Some body) ∷ []) }
+pub fn one_change(alloc: Global, path: Path, body: FileBody) -> Result<Changes, NoMemory>
+    ensures { IfOk result (λ changes. changes ≡ (path, Some body) ∷ []) }
 {
     let mut items = Vec::with_capacity(alloc, 1)?;
-    items.push((path.copy()?, Some(body)))?;
+    items.push((path, Some(body)))?;
     Ok(Changes::of(items))
 }
 
@@ -154,11 +240,10 @@ impl PolicyFiles {
         if self.files.get(&path).is_some() || body.len() > MOST_FILE {
             return Ok(false);
         }
-        let size = body.len();
         let body = FileBody::from_slice(alloc, body).or(Err(NoMemory))?;
-        let changes = one_change(alloc, &path, body)?;
-        self.reserve()?;
-        self.keep(&path, size, changes);
+        let changes = one_change(alloc, path, body)?;
+        self.reserve(1)?;
+        self.keep(changes);
         Ok(true)
     }
 
@@ -197,27 +282,68 @@ impl PolicyFiles {
         quota_reached(alloc, self.regions.name_of(region), new)
     }
 
-    /// Makes room for a path more.
-    pub fn reserve(&mut self) -> Result<(), NoMemory>
-        ensures policy { self.new.policy ≡ self.old.policy }
-        ensures same { self.new.files.map ≡ self.old.files.map }
-        ensures room { OnOk result (1 ≤ self.new.files.spare) }
+    /// That the quotas of all regions let the changes be made.
+    pub fn check_quotas(&self, alloc: Global, changes: &Changes) -> Result<(), Reply>
+        ensures { Gives result (quotas_check self.now.policy self.now.files.map
+            (applied self.now.files.map changes.now)) }
     {
-        self.files.reserve(1)
+        let mut totals = match self.totals.clone() {
+            Ok(totals) => totals,
+            Err(_) => return Err(Reply::OutOfMemory),
+        };
+        change_totals(
+            &self.policy,
+            &self.regions,
+            &self.files,
+            &mut totals,
+            changes.as_slice(),
+        );
+        check_totals(alloc, &self.regions, &self.totals, &totals)
     }
 
-    /// Makes the one change, which keeps a body of this size at a path.
-    pub fn keep(&mut self, path: &Path, size: usize, changes: Changes)
-        requires one { IsOneChange path.now size changes }
-        requires small { size ≤ 16777216 }
-        requires room { 1 ≤ self.old.files.spare }
+    /// The place of the pipeline that the caller asks to run, where the run may be made.
+    pub fn check_run(&self, who: u32, id: u32) -> Result<u32, Reply>
+        ensures place { Gives result (run_place self.now.policy self.now.files.map who id) }
+        ensures ready { IfOk result (IsReady self.now.policy self.now.files.map) }
+    {
+        let caller = find_caller(&self.policy, who)?;
+        let pipeline = find_pipeline(&self.policy, id)?;
+        check_programs(&self.policy, &self.regions, caller, pipeline)?;
+        check_start(&self.policy, &self.regions, pipeline, &self.files)?;
+        Ok(pipeline)
+    }
+
+    /// Runs the pipeline at a place over a share of the files.
+    pub fn run(&self, alloc: Global, pipeline: u32, fuel: u64) -> Result<Outcome, NoMemory>
+        requires { IsReady self.now.policy self.now.files.map pipeline }
+        ensures { IfOk result
+            (PipelineComesTo self.now.policy pipeline self.now.files.map fuel) }
+    {
+        run_pipeline(alloc, &self.policy, pipeline, self.files.share()?, fuel)
+    }
+
+    /// Makes room for so many paths more.
+    pub fn reserve(&mut self, more: usize) -> Result<(), NoMemory>
+        ensures policy { self.new.policy ≡ self.old.policy }
+        ensures same { self.new.files.map ≡ self.old.files.map }
+        ensures room { OnOk result (more ≤ self.new.files.spare) }
+    {
+        self.files.reserve(more)
+    }
+
+    /// Makes the changes, for which there is room.
+    pub fn keep(&mut self, changes: Changes)
+        requires { length changes ≤ self.old.files.spare }
         ensures policy { self.new.policy ≡ self.old.policy }
         ensures files { self.new.files.map ≡ applied self.old.files.map changes }
     {
-        if let Some(region) = self.regions.region_of(path) {
-            let old = self.totals[region as usize];
-            self.totals[region as usize] = new_total(old, &self.files, path, size);
-        }
+        change_totals(
+            &self.policy,
+            &self.regions,
+            &self.files,
+            &mut self.totals,
+            changes.as_slice(),
+        );
         self.files.apply(changes);
     }
 }

@@ -3,4 +3,5 @@ pub mod Calls
 pub mod Contents
 pub mod Digits
 pub mod FileLines
+pub mod FlowLines
 pub mod Parts

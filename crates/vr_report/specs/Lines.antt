@@ -9,7 +9,7 @@ use Rattle.vr_base.specs.Checks.{◌>>=◌, or_fault, unless_fault, fault_if, re
 use Rattle.vr_base.specs.Cuts.{parts_at}
 use Rattle.vr_base.specs.Signs.{space, carriage_return}
 use Rattle.vr_base.specs.declared.calls.Call.{Call}
-use Rattle.vr_base.specs.declared.calls.Call.TheVariants.{Read, Write, Append, Hash}
+use Rattle.vr_base.specs.declared.calls.Call.TheVariants.{Read, Write, Append, Run, Hash}
 use Rattle.vr_report.specs.declared.reading.LineFault.{LineFault}
 use Rattle.vr_report.specs.declared.reading.LineFault.TheVariants.{Form, OutOfMemory}
 
@@ -88,11 +88,17 @@ keeping_call make word kind words = do
   body ← content_of kind words
   Ok (make name body)
 
+-- a call that a verb and one word ask for: to read the file of a name, or to run the pipeline with a number
+abbrev pub naming_call : List ℕ → List ℕ → Reading Call
+naming_call verb word =
+    if bytes_eq verb (codes "read") then result_map (λ name. Read name) (name_of word)
+    else (if bytes_eq verb (codes "run") then result_map (λ pipeline. Run pipeline) (id_of word) else Err Form)
+
 -- the call that the words stand for
 abbrev pub call_of : List (List ℕ) → Reading Call
 call_of [] = Err Form
 call_of (verb ∷ []) = if bytes_eq verb (codes "hash") then Ok Hash else Err Form
-call_of (verb ∷ word ∷ []) = if bytes_eq verb (codes "read") then result_map (λ name. Read name) (name_of word) else Err Form
+call_of (verb ∷ word ∷ []) = naming_call verb word
 call_of (verb ∷ word ∷ kind ∷ words) =
     if bytes_eq verb (codes "write") then keeping_call (λ name body. Write name body) word kind words
     else (if bytes_eq verb (codes "append") then keeping_call (λ name body. Append name body) word kind words else Err Form)

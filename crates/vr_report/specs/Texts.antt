@@ -12,8 +12,6 @@ use Rattle.vr_base.specs.declared.calls.Reply.TheVariants.{Stored, Read, Ended, 
 use Rattle.vr_base.specs.declared.calls.Why.{Why}
 use Rattle.vr_base.specs.declared.calls.Why.TheVariants.{Decode, Invalid, Link}
 use Rattle.vr_files.specs.FileMaps.{FileMap}
-use Rattle.vr_core.specs.Machine.{Origin, Replay, replay}
-use Rattle.vr_report.specs.Script.{calls_of}
 use Rattle.vr_report.specs.declared.script.Line.{Line}
 
 -- a word, with the space that parts it from those before it
@@ -87,16 +85,7 @@ policy_line hash = codes "policy" ++ word hash ++ line_feed ∷ []
 abbrev pub call_lines : List Line → List Reply → List ℕ
 call_lines script replies = flat_map (λ call. call_line call.0.line call.0.who call.1) (zip script replies)
 
--- what the calls of a script come to, from these files on
-abbrev pub script_replay : Origin → FileMap → List Line → Replay
-script_replay origin files script = replay origin files (calls_of script)
-
--- the lines of a script's calls, from these files on
-abbrev pub script_lines : Origin → FileMap → List Line → List ℕ
-script_lines origin files script = call_lines script (script_replay origin files script).replies
-
--- What a replay writes: the policy's hash, a line a call with the machine's reply, and a line a file that is left.
-abbrev pub replay_text : Origin → List Line → List ℕ
-replay_text origin script =
-    policy_line origin.hash ++ script_lines origin origin.opening script
-    ++ files_text (script_replay origin origin.opening script).files
+-- What a replay writes: the policy's hash, a line a call with its reply, and a line a file that is left.
+abbrev pub replay_text : List ℕ → List Line → List Reply → FileMap → List ℕ
+replay_text hash script replies files =
+    policy_line hash ++ call_lines script replies ++ files_text files

@@ -217,13 +217,16 @@ fn read_bare(verb: &[u8]) -> Result<Call, LineFault>
     }
 }
 
-/// The call of a word and a name.
-fn read_named(alloc: Global, verb: &[u8], name: &[u8]) -> Result<Call, LineFault>
-    ensures { Gives result (call_of (verb.now ∷ name.now ∷ [])) }
+/// The call of a word and the name of a file or the number of a pipeline.
+fn read_named(alloc: Global, verb: &[u8], word: &[u8]) -> Result<Call, LineFault>
+    ensures { Gives result (call_of (verb.now ∷ word.now ∷ [])) }
 {
     if verb == b"read".as_slice() {
-        let name = read_name(alloc, name)?;
+        let name = read_name(alloc, word)?;
         Ok(Call::Read { name })
+    } else if verb == b"run".as_slice() {
+        let pipeline = read_id(word)?;
+        Ok(Call::Run { pipeline })
     } else {
         Err(LineFault::Form)
     }

@@ -84,11 +84,11 @@ fn read_line(alloc: Global, number: u32, text: &[u8]) -> Result<Option<Line>, Sc
 /// a CR before the LF is dropped. Empty lines and lines that begin with `#` are passed over. Another line is words with
 /// one space between each two:
 ///
-/// - `ID read NAME`, `ID write NAME CONTENT`, `ID append NAME CONTENT` and `ID hash`;
+/// - `ID read NAME`, `ID write NAME CONTENT`, `ID append NAME CONTENT`, `ID run PIPELINE` and `ID hash`;
 /// - a content is `empty`, or `text` and all that is left of the line after a space, or `hex` and an even number of hex
 ///   digits, two at least, or `fill` with a byte in two hex digits and how often it comes, at most 16,777,217 times.
 ///
-/// An identity is 0 to 4,294,967,295, in decimal digits without a leading zero. A name is one byte or more, whether it
+/// An identity and a pipeline are 0 to 4,294,967,295, in decimal digits without a leading zero. A name is one byte or more, whether it
 /// stands for a path or not, and is kept as it is.
 ///
 /// The fault is that of the first line in another form.

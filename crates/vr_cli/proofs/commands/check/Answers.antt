@@ -1,6 +1,7 @@
 use Rattle.std.proofs.lemmas.Result.{err_from_is_err_and}
-use Rattle.vr_cli.specs.Outputs.{text_of}
-use Rattle.vr_cli.specs.Words.{check}
+use Rattle.vr_cli.specs.Outputs.{output_of}
+use Rattle.vr_words.specs.Views.{placed}
+use Rattle.vr_words.specs.Grammar.{check}
 use Rattle.vr_cli.proofs.EndingLemmas.{counted_is_caused, nothing_yet}
 use Rattle.vr_cli.proofs.commands.check.Goals as goal
 
@@ -12,4 +13,4 @@ returns-in_err-checked-clause-cause g c =
 pub returns-in_err-line-clause-ends : goal.returns-in_err-line-clause-ends
 returns-in_err-line-clause-ends g c =
     let same = err_from_is_err_and c.from_residual-in_err-line.result c.from_residual-in_err-line.ensures.1 in
-    rw (same.1, same.2) (nothing_yet (g.F.Folder.files c.args.folder.now) (text_of (check c.args.policy.now)) (g.O.Sink.written c.args.out.now))
+    rw (same.1, same.2) (nothing_yet (g.F.Folder.files c.args.folder.now) (output_of (check (placed c.args.policy))) (g.O.Sink.written c.args.out.now))

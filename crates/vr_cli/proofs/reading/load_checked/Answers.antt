@@ -6,9 +6,9 @@ use Rattle.vr_cli.proofs.reading.load_checked.Goals as goal
 
 pub returns-clause-told : goal.returns-clause-told
 returns-clause-told g c =
-    told_reading checked_from most_policy 1 _ (long_checked most_policy) _ _ _ _ c.in_ok-bytes.ensures.told (rw c.as_slice.ensures at c.parse_checked.ensures.answer)
+    told_reading checked_from most_policy _ (long_checked most_policy) _ _ _ _ c.in_ok-bytes.ensures.told (rw c.as_slice.ensures at c.parse_checked.ensures.answer)
 
 pub returns-in_err-bytes-clause-told : goal.returns-in_err-bytes-clause-told
 returns-in_err-bytes-clause-told g c =
     let same = err_from_is_err_and c.from_residual.result c.from_residual.ensures.1 in
-    rw (same.1, same.2) (told_refusal checked_from most_policy 1 _ (long_checked most_policy) _ _ _ c.in_err-bytes.ensures.told)
+    rw (same.1, same.2) (told_refusal checked_from most_policy _ (long_checked most_policy) _ _ _ c.in_err-bytes.ensures.told)

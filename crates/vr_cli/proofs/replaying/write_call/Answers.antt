@@ -1,26 +1,26 @@
-use Rattle.std.proofs.Common.{refl, rules}
+use Rattle.std.proofs.Common.{◌∷◌, ◌++◌, []}
 use Rattle.vr_base.proofs.Written.{AppendsPrefix-none}
-use Rattle.vr_cli.proofs.GatheringLemmas.{HandsIn-added, HandsIn-failed, no_ok, on_ok}
-use Rattle.vr_cli.proofs.ReplayLemmas.{answered}
+use Rattle.vr_cli.specs.Replays.{AreCallLines, AreFirstLines}
+use Rattle.vr_cli.proofs.GatheringLemmas.{HandsInLines-none}
+use Rattle.vr_cli.proofs.ReplayLemmas.{answered, first_none, line_handed}
 use Rattle.vr_cli.proofs.replaying.write_call.Goals as goal
 
-pub returns-in_err-add_call_line : goal.returns-in_err-add_call_line
-returns-in_err-add_call_line g c =
-    let failed = c.from_residual.ensures.0 in
-    record {
-      text = HandsIn-failed _ _ _ _ _ failed (AppendsPrefix-none _ _);
-      files = no_ok _ _ failed;
-      origin = c.step-reply.ensures.steps.origin;
-      cause = search rules;
-    }
+pub returns-in-OutOfMemory-clause-lines : goal.returns-in-OutOfMemory-clause-lines
+returns-in-OutOfMemory-clause-lines g c =
+    let book = c.args.book.now in
+    ([], first_none book.origin book.files (c.args.line ∷ []), AppendsPrefix-none (g.O.Sink.written c.args.out.now) (c.args.text ++ []))
 
-pub returns : goal.returns
-returns g c =
-    let steps = c.step-reply.ensures.steps in
-    let made = answered _ _ _ _ _ _ _ _ steps c.in_default.not-OutOfMemory (c.requires.never _) (c.requires.never _) c.step-reply.ensures.cause in
-    rw made (record {
-      text = HandsIn-added _ _ _ _ _ (rw c.in_ok-add_call_line.ensures at c.pass_on.ensures.text);
-      files = on_ok _ refl;
-      origin = steps.origin;
-      cause = c.pass_on.ensures.cause;
-    })
+pub returns-in_err-add_call_line-clause-lines : goal.returns-in_err-add_call_line-clause-lines
+returns-in_err-add_call_line-clause-lines g c =
+    let book = c.args.book.now in
+    HandsInLines-none c.from_residual.result (g.O.Sink.written c.args.out.now) c.args.text
+    (AreCallLines book.origin book.files (c.args.line ∷ []) c.step-reply.new.self.files) (AreFirstLines book.origin book.files (c.args.line ∷ []))
+    c.from_residual.ensures.0 (first_none book.origin book.files (c.args.line ∷ []))
+
+pub returns-clause-lines : goal.returns-clause-lines
+returns-clause-lines g c =
+    let book = c.args.book.now in
+    let asked = c.step-reply.ensures in
+    let made = answered _ _ _ _ _ _ _ _ asked.steps c.in_default.not-OutOfMemory (c.requires.never _) (c.requires.never _) asked.cause in
+    line_handed c.pass_on.result (g.O.Sink.written c.args.out.now) (g.O.Sink.written c.pass_on.new.out) c.args.text
+    book.origin book.files c.args.line c.step-reply.result c.step-reply.new.self.files made (rw c.in_ok-add_call_line.ensures at c.pass_on.ensures.text)

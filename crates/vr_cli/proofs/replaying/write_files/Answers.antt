@@ -1,4 +1,4 @@
-use Rattle.std.proofs.Common.{◌≡◌, ◌<◌, ◌≤◌, ℕ, length, sym, arith}
+use Rattle.std.proofs.Common.{◌<◌, ◌≤◌, ℕ, length, sym, arith}
 use Rattle.std.specs.FinMap.{entries, len, len-entries}
 use Rattle.vr_report.specs.Texts.{file_line}
 use Rattle.vr_report.proofs.FileLines.{flat_from, flat_past, has_file}
