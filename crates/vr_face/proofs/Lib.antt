@@ -5,3 +5,11 @@ pub mod PathLemmas
 pub mod RouterLemmas
 pub mod WalkLemmas
 pub mod ResponseLemmas
+pub mod AnswerLemmas
+pub mod SessionLemmas
+pub mod StepLemmas
+pub mod RequestSteps
+pub mod NextLemmas
+pub mod ServedLemmas
+pub mod DoorLemmas
+pub mod PorchLemmas

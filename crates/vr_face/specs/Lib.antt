@@ -1,10 +1,14 @@
 pub mod Answers
 pub mod Asks
+pub mod Doors
 pub mod Holders
 pub mod Keys
 pub mod Lines
 pub mod Numerals
+pub mod Porches
 pub mod Refusals
 pub mod Resources
 pub mod Table
 pub mod Targets
+pub mod Sessions
+pub mod SessionSteps

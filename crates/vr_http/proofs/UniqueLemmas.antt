@@ -1,11 +1,12 @@
 -- A stream begins with one answer, and is cut in one way.
-use Rattle.std.proofs.Common.{◌≡◌, ℕ, List, sym, ap, ◌∙◌, inl, inr}
-use Rattle.std.specs.Prelude.{◌⊎◌, Option, Some, None, Result, Ok, Err}
+use Rattle.std.proofs.Common.{◌≡◌, ℕ, ◌+◌, List, [], ◌∷◌, refl, sym, ap, subst, ◌∙◌, inl, inr}
+use Rattle.std.specs.Prelude.{◌⊎◌, Option, Some, None, MatchOption, Result, Ok, Err}
 use Rattle.httparse.specs.Grammar.{RequestHead}
 use Rattle.httparse.proofs.GrammarLemmas.{request_unique}
 use Rattle.vr_http.specs.Heads.{CutHead, first_head}
-use Rattle.vr_http.specs.Requests.{CutRequest, FirstAnswer, First, FirstBy, IsNoHead, IsHead, request_after, StreamEnd, end_by, Ends}
+use Rattle.vr_http.specs.Requests.{CutRequest, FirstAnswer, First, FirstBy, IsNoHead, IsHead, request_after, StreamEnd, end_by, Ends, Cuts, last_by}
 use Rattle.vr_http.specs.declared.faults.HttpFault.{HttpFault}
+use Rattle.vr_http.specs.declared.requests.Request.{Request}
 
 -- a head text gives one answer
 one_by_text : (text rest : List ℕ) (a b : FirstAnswer) → IsNoHead text a ⊎ IsHead text rest a → IsNoHead text b ⊎ IsHead text rest b → a ≡ b
@@ -49,3 +50,37 @@ one_end bytes a b (inr x) (inr y) = x.2 ∙ ap end_by (same (First-unique bytes 
   where
     same : (λ (x : FirstAnswer). x) (Err x.0) ≡ Err y.0 → x.0 ≡ y.0
     same e = cc
+
+-- what comes after a request is cut in one way, where the rest is
+abbrev IsSame : List Request → List Request → StreamEnd → StreamEnd → Type 0
+IsSame xs ys a b = (xs ≡ ys) × (a ≡ b)
+
+one_way : (last : Option StreamEnd) (taken : ℕ) (rest : List ℕ) (xs ys : List Request) (a b : StreamEnd)
+    → MatchOption last (Cuts taken rest xs a) (λ e. (xs ≡ []) × (a ≡ e))
+    → MatchOption last (Cuts taken rest ys b) (λ e. (ys ≡ []) × (b ≡ e))
+    → (Cuts taken rest xs a → Cuts taken rest ys b → IsSame xs ys a b) → IsSame xs ys a b
+one_way None taken rest xs ys a b h k same = same h k
+one_way (Some e) taken rest xs ys a b h k same = (h.0 ∙ sym k.0, h.1 ∙ sym k.1)
+
+-- A stream is cut into requests and an end in one way.
+pub Cuts-unique : (taken : ℕ) (bytes : List ℕ) (xs ys : List Request) (a b : StreamEnd)
+    → Cuts taken bytes xs a → Cuts taken bytes ys b → IsSame xs ys a b
+Cuts-unique taken bytes [] [] a b h k = (refl, one_end bytes a b h k)
+Cuts-unique taken bytes [] (y ∷ ys) a b h k =
+    absurd (no_request bytes a (record { request = y; rest = k.0 }) h k.1)
+Cuts-unique taken bytes (x ∷ xs) [] a b h k =
+    absurd (no_request bytes b (record { request = x; rest = h.0 }) k h.1)
+Cuts-unique taken bytes (x ∷ xs) (y ∷ ys) a b h k =
+    let first : CutRequest = record { request = x; rest = h.0 } in
+    let other : CutRequest = record { request = y; rest = k.0 } in
+    let same : first ≡ other = taken_once first other (First-unique bytes (Ok (Some first)) (Ok (Some other)) h.1 k.1) in
+    let one : x ≡ y = ap (λ (cut : CutRequest). cut.request) same in
+    let left : h.0 ≡ k.0 = ap (λ (cut : CutRequest). cut.rest) same in
+    let after = subst (λ (r : List ℕ). MatchOption (last_by (taken + 1) y) (Cuts (taken + 1) r ys b) (λ e. (ys ≡ []) × (b ≡ e))) (sym left)
+    (k.2) in
+    let before = subst (λ (r : Request). MatchOption (last_by (taken + 1) r) (Cuts (taken + 1) h.0 xs a) (λ e. (xs ≡ []) × (a ≡ e))) one (h.2) in
+    let rest : IsSame xs ys a b = one_way (last_by (taken + 1) y) (taken + 1) h.0 xs ys a b before after (λ u v. Cuts-unique (taken + 1) h.0 xs ys a b u v) in
+    (ap (λ (r : Request). r ∷ xs) one ∙ ap (λ rs. y ∷ rs) rest.0, rest.1)
+  where
+    taken_once : (c d : CutRequest) → (λ (v : FirstAnswer). v) (Ok (Some c)) ≡ Ok (Some d) → c ≡ d
+    taken_once c d e = cc
