@@ -9,10 +9,14 @@ calls, what they do, in whose folder, and a number of bytes.
 generator.py N policy    prints the policy
 generator.py N script    prints the script
 generator.py N sums      prints the size and the SHA-256 of both
+generator.py --check     ends with status 1 where crates/vr_generator_cases/stdout has others
 """
 import hashlib
 import json
+import pathlib
 import sys
+
+STORED = pathlib.Path(__file__).resolve().parent.parent / "crates" / "vr_generator_cases" / "stdout"
 
 HEADER = "0061736d01000000"
 START = "070a01065f73746172740000"
@@ -81,16 +85,31 @@ def script(n):
     return "".join(line + "\n" for line in lines)
 
 
+def sums(n):
+    for name, text in (("policy", policy()), ("script", script(n))):
+        data = text.encode()
+        yield f"{n} {name} {len(data)} {hashlib.sha256(data).hexdigest()}"
+
+
+def check():
+    stored = STORED.read_text(encoding="utf-8").splitlines()
+    numbers = list(dict.fromkeys(int(line.split()[0]) for line in stored))
+    if stored != [line for n in numbers for line in sums(n)]:
+        sys.exit(f"{STORED} has other sums")
+    print(f"{len(numbers)} generated scripts are as stored")
+
+
 def main():
+    if sys.argv[1:] == ["--check"]:
+        check()
+        return
     n, what = int(sys.argv[1]), sys.argv[2]
     if what == "policy":
         sys.stdout.write(policy())
     elif what == "script":
         sys.stdout.write(script(n))
     else:
-        for name, text in (("policy", policy()), ("script", script(n))):
-            data = text.encode()
-            print(f"{n} {name} {len(data)} {hashlib.sha256(data).hexdigest()}")
+        print(*sums(n), sep="\n")
 
 
 main()
