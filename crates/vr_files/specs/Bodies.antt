@@ -16,7 +16,8 @@ resized bytes size = take size bytes ++ replicate (size - length bytes) 0
 -- the bytes with a piece written from a place on. Zeros fill a gap before it, and an empty piece changes nothing
 abbrev pub written : List ℕ → ℕ → List ℕ → List ℕ
 written bytes at [] = bytes
-written bytes at (b ∷ piece) = resized bytes at ++ (b ∷ piece) ++ drop (at + length (b ∷ piece)) bytes
+written bytes at (b ∷ piece) =
+    resized bytes at ++ (b ∷ piece) ++ drop (at + length (b ∷ piece)) bytes
 
 -- the part of the bytes that lies in a page, counted from 0
 abbrev pub page_at : ℕ → List ℕ → List ℕ
@@ -28,7 +29,9 @@ padded bytes = bytes ++ replicate (PAGE - length bytes) 0
 
 -- the bytes as a file's, or the fault that they are too many
 abbrev pub sized : List ℕ → Result (List ℕ) FileFault
-sized bytes = unless_fault (fault_if (nat_lt MOST_BYTES (length bytes)) (TooLarge (min (length bytes) (2 ^ 64 - 1)))) bytes
+sized bytes =
+    unless_fault
+    (fault_if (nat_lt MOST_BYTES (length bytes)) (TooLarge (min (length bytes) (2 ^ 64 - 1)))) bytes
 
 -- what a fault tells: TooLarge is the answer
 abbrev pub told : FileFault → Told FileFault
@@ -40,6 +43,7 @@ abbrev pub Gives : {A : Type 0} → Result A FileFault → Result A FileFault �
 Gives result answer = GivesBy told result answer
 
 -- A call changed a value to the answer. Where it was refused the value is as before, and memory ran out or the fault is the answer.
-abbrev pub Becomes : {A : Type 0} → A → A → Result (Unit {0}) FileFault → Result A FileFault → Type 0
+abbrev pub Becomes : {A : Type 0} → A → A → Result (Unit {0}) FileFault → Result A FileFault
+    → Type 0
 Becomes old new (Ok done) answer = answer ≡ Ok new
 Becomes old new (Err fault) answer = Tells (told fault) answer × (new ≡ old)

@@ -45,7 +45,8 @@ differs files change = not (same_file (get files change.0) change.1)
 -- The changes are those of the paths at which the files differ, in the order of the paths.
 pub record AreDifferences (old new : FileMap) (changes : List Change) : Type 0 where
   pub in_order : AreSorted changes
-  pub exact : (path : List ℕ) → find path_cmp path changes ≡ difference (get old path) (get new path)
+  pub exact : (path : List ℕ)
+      → find path_cmp path changes ≡ difference (get old path) (get new path)
   pub applied : applied old changes ≡ new
 
 -- files over others, which stay as they are
@@ -54,7 +55,9 @@ pub record Layers : Type 0 where
   pub files : FileMap
 
 abbrev pub coded_layers : Coded Layers
-coded_layers = code_by (FileMap × FileMap) (coded× coded_files coded_files) (λ l. (l.base, l.files)) (λ p. record { base = p.0; files = p.1 }) (λ _. refl)
+coded_layers =
+    code_by (FileMap × FileMap) (coded× coded_files coded_files) (λ l. (l.base, l.files))
+    (λ p. record { base = p.0; files = p.1 }) (λ _. refl)
 
 -- the layers with a file made or replaced
 abbrev pub with_file : Layers → List ℕ → List ℕ → Layers
@@ -79,5 +82,6 @@ pub record EditTable : Type 0 where
 
 abbrev pub coded_edits : Coded EditTable
 coded_edits =
-    code_by (List Change × ℕ) (coded× (coded_list (coded× (coded_list coded_ℕ) (coded_option (coded_list coded_ℕ)))) coded_ℕ) (λ e. (e.changes, e.spare))
-    (λ p. record { changes = p.0; spare = p.1 }) (λ _. refl)
+    code_by (List Change × ℕ)
+    (coded× (coded_list (coded× (coded_list coded_ℕ) (coded_option (coded_list coded_ℕ)))) coded_ℕ)
+    (λ e. (e.changes, e.spare)) (λ p. record { changes = p.0; spare = p.1 }) (λ _. refl)

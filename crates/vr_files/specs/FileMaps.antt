@@ -38,4 +38,6 @@ pub record FileTable : Type 0 where
   pub spare : ℕ
 
 abbrev pub coded_table : Coded FileTable
-coded_table = code_by (FileMap × ℕ) (coded× coded_files coded_ℕ) (λ t. (t.map, t.spare)) (λ p. record { map = p.0; spare = p.1 }) (λ _. refl)
+coded_table =
+    code_by (FileMap × ℕ) (coded× coded_files coded_ℕ) (λ t. (t.map, t.spare))
+    (λ p. record { map = p.0; spare = p.1 }) (λ _. refl)

@@ -38,13 +38,15 @@ lacking pages count = PAGE * (count - length pages)
 pub record Overwrites (old new : PageList) (at : ℕ) (piece : List ℕ) : Type 0 where
   pub full : AreFull new
   pub counted : length new ≡ max (length old) (div_ceil (at + length piece) PAGE)
-  pub bytes : bytes_of new ≡ overwritten (bytes_of old ++ replicate (lacking old (div_ceil (at + length piece) PAGE)) 0) at piece
+  pub bytes : bytes_of new ≡ overwritten
+      (bytes_of old ++ replicate (lacking old (div_ceil (at + length piece) PAGE)) 0) at piece
 
 -- new pages are the old ones cut to a size, and zero past it
 pub record Cuts (old new : PageList) (size : ℕ) : Type 0 where
   pub full : AreFull new
   pub counted : length new ≡ div_ceil size PAGE
-  pub bytes : bytes_of new ≡ take size (bytes_of old) ++ replicate (PAGE * div_ceil size PAGE - size) 0
+  pub bytes : bytes_of new ≡ take size (bytes_of old)
+      ++ replicate (PAGE * div_ceil size PAGE - size) 0
 
 -- The pages keep so many bytes: they are as many as it takes, and zero past the last byte.
 pub record IsPaged (len : ℕ) (pages : PageList) : Type 0 where

@@ -72,7 +72,8 @@ impl Files {
 
     /// File `k`, counted from 0 in the order of the bytes of the paths. None comes where there are at most `k` files.
     pub fn entry(&self, k: usize) -> Option<(&Path, &FileBody)>
-        ensures { option_map (λ e. (e.0.now, e.1.now)) result ≡ slice_get (map.entries self.now.map) k }
+        ensures { option_map (λ e. (e.0.now, e.1.now)) result
+            ≡ slice_get (map.entries self.now.map) k }
     {
         Some(self.entries.get(k)?.file())
     }

@@ -179,7 +179,8 @@ pub(crate) fn place_of(entries: &[Entry], path: &Path) -> Result<usize, usize>
 /// Puts an entry in the place of the path's earlier one. It takes memory only for a path more, where there is no room.
 pub(crate) fn put(entries: &mut Vec<Entry>, entry: Entry) -> Result<(), NoMemory>
     requires { AreSorted entries.old.items }
-    ensures ok { OnOk result (entries.new.items ≡ put_lem path_cmp entry.0 entry.1 entries.old.items) }
+    ensures ok { OnOk result (entries.new.items
+        ≡ put_lem path_cmp entry.0 entry.1 entries.old.items) }
     ensures err { OnErr result (entries.new.items ≡ entries.old.items) }
     ensures succeeds { vec_len entries.old < vec_capacity entries.old → IsOk result }
     ensures len { vec_len entries.new ≤ vec_len entries.old + 1 }

@@ -40,7 +40,8 @@ most_body = 16777216
 abbrev pub sized : List ℕ → Result ℕ HttpFault
 sized value =
     if is_number value then
-    (if nat_le (digits_value 10 value) most_body then Ok (digits_value 10 value) else Err BodyTooLarge)
+    (if nat_le (digits_value 10 value) most_body then Ok (digits_value 10 value)
+    else Err BodyTooLarge)
     else Err BadHead
 
 -- the length of a body by the values of the Content-Length fields; a body without any is empty,

@@ -82,7 +82,8 @@ ReadsText at held left (Err fault) = ⊥
 
 -- the head of the unread bytes at a place, with what comes after it
 abbrev pub cut_at : List ℕ → Place → List ℕ → CutHead
-cut_at held place bytes = record { text = slice_range held place.start place.end; rest = drop place.end bytes }
+cut_at held place bytes =
+    record { text = slice_range held place.start place.end; rest = drop place.end bytes }
 
 -- A head text has its place in what is held.
 pub record IsPlaced (held : List ℕ) (place : Place) : Type 0 where
@@ -109,7 +110,8 @@ abbrev pub LocatesHead : Option (List ℕ) → List ℕ → Result (Option Place
 LocatesHead known held result = IfSome known (λ bytes. FindsHead held bytes result)
 
 -- The whole buffer was filled from what the source had left, or that was less.
-abbrev pub FillsWhole : List ℕ → Option (List ℕ) → Option (List ℕ) → Result (Unit {0}) HttpFault → Type 0
+abbrev pub FillsWhole : List ℕ → Option (List ℕ) → Option (List ℕ) → Result (Unit {0}) HttpFault
+    → Type 0
 FillsWhole into left_old left_new (Ok done) = Consumes left_old left_new into
 FillsWhole into left_old left_new (Err CutShort) =
     IfSome left_old (λ bytes. length bytes < length into)
@@ -117,13 +119,15 @@ FillsWhole into left_old left_new (Err ReadFault) = Unit {0}
 FillsWhole into left_old left_new (Err fault) = ⊥
 
 -- The bytes grew to so many from what the source had left, or that was less.
-pub record GrowsTo (size : ℕ) (old new : List ℕ) (left_old left_new : Option (List ℕ)) : Type 0 where
+pub record GrowsTo (size : ℕ) (old new : List ℕ)
+    (left_old left_new : Option (List ℕ)) : Type 0 where
   pub more : List ℕ
   pub added : new ≡ old ++ more
   pub whole : length new ≡ size
   pub consumed : Consumes left_old left_new more
 
-abbrev pub ReadsRest : ℕ → List ℕ → List ℕ → Option (List ℕ) → Option (List ℕ) → Result (Unit {0}) HttpFault → Type 0
+abbrev pub ReadsRest : ℕ → List ℕ → List ℕ → Option (List ℕ) → Option (List ℕ)
+    → Result (Unit {0}) HttpFault → Type 0
 ReadsRest size old new left_old left_new (Ok done) = GrowsTo size old new left_old left_new
 ReadsRest size old new left_old left_new (Err CutShort) =
     IfSome left_old (λ bytes. length old + length bytes < size)

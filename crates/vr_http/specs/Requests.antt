@@ -84,7 +84,8 @@ Takes bytes left (Ok None) = First bytes (Ok None)
 Takes bytes left (Err fault) = IsTrue (is_of_bytes fault) → First bytes (Err fault)
 
 -- The same, where the source tells the stream.
-abbrev pub TakesFirst : Option (List ℕ) → Option (List ℕ) → Result (Option Request) HttpFault → Type 0
+abbrev pub TakesFirst : Option (List ℕ) → Option (List ℕ) → Result (Option Request) HttpFault
+    → Type 0
 TakesFirst stream left result = IfSome stream (λ bytes. Takes bytes left result)
 
 -- How the requests of a stream end: the stream ends between requests; a request closes the

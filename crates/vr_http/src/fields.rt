@@ -136,7 +136,8 @@ fn is_key(value: &[u8]) -> bool
 }
 
 fn read_key(value: &[u8]) -> Option<[u8; KEY_DIGITS]>
-    ensures { result ≡ (if is_key value.now then Some (map to_ascii_lowercase value.now) else None) }
+    ensures { result
+        ≡ (if is_key value.now then Some (map to_ascii_lowercase value.now) else None) }
 {
     if !is_key(value) {
         return None;

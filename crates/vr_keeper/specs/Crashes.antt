@@ -16,13 +16,16 @@ abbrev pub LeftByChanges : (FileMap → Type 0) → FileMap → List Change → 
 LeftByChanges before rows changes map = before map ⊎ ((map ≡ rows) ⊎ (map ≡ applied rows changes))
 
 -- What a crash may leave where changes were asked of rows.
-pub record ApplyLeaves (start now : ℕ) (old new : ℕ → FileMap → Type 0) (rows : FileMap) (changes : List Change) (result : Result (Unit {0}) KeepFault) : Type 0 where
+pub record ApplyLeaves (start now : ℕ) (old new : ℕ → FileMap → Type 0) (rows : FileMap)
+    (changes : List Change) (result : Result (Unit {0}) KeepFault) : Type 0 where
   pub later : start ≤ now
   -- at any moment since its start
   pub since : (map : FileMap) → new start map → LeftByChanges (old start) rows changes map
   -- after an Ok the rows with the changes, and nothing else
   pub done : OnOk result ((map : FileMap) → new now map ↔ (map ≡ applied rows changes))
   -- after a failure one of those that a crash during it may leave
-  pub failed : result ≡ Err Failed → (map : FileMap) → new now map → LeftByChanges (old start) rows changes map
+  pub failed : result ≡ Err Failed → (map : FileMap) → new now map
+      → LeftByChanges (old start) rows changes map
   -- without memory what it was
-  pub no_memory : result ≡ Err OutOfMemory → (now ≡ start) × ((time : ℕ) (map : FileMap) → new time map ↔ old time map)
+  pub no_memory : result ≡ Err OutOfMemory
+      → (now ≡ start) × ((time : ℕ) (map : FileMap) → new time map ↔ old time map)

@@ -28,7 +28,8 @@ loads (Ok rows) = not (list_any has_no_name rows)
 loads (Err fault) = false
 
 -- the rows after changes that were taken or refused
-abbrev pub rows_after : {E : Type 0} → Result (Unit {0}) E → Option FileMap → List Change → Option FileMap
+abbrev pub rows_after : {E : Type 0} → Result (Unit {0}) E → Option FileMap → List Change
+    → Option FileMap
 rows_after (Ok done) rows changes = option_map (λ map. applied map changes) rows
 rows_after (Err fault) rows changes = rows
 

@@ -18,7 +18,8 @@ struct Journal {
 impl Chronicle for Journal {
     ghost Origin = { Unit {0} };
 
-    ghost account = { λ journal. record { origin = tt; history = journal.entries.items; faults = 0 } };
+    ghost account = { λ journal.
+        record { origin = tt; history = journal.entries.items; faults = 0 } };
 
     fn entries(&self) -> u64 {
         self.entries.len() as u64

@@ -96,7 +96,8 @@ impl State {
     fn write_pieces(&mut self, memory: &Memory, fd: u32, pieces: &[Iovec]) -> Result<(), NoMemory>
         requires within { fd < DESCRIPTORS }
         requires there { AreThere memory.now pieces.now }
-        requires room { room_check self.old (descriptor_at self.old fd) (size_of pieces.now) ≡ Ok tt }
+        requires room { room_check self.old (descriptor_at self.old fd) (size_of pieces.now)
+            ≡ Ok tt }
         ensures ok { OnOk result (self.new
             ≡ written_at self.old fd (descriptor_at self.old fd) (bytes_in memory.now pieces.now)) }
         ensures err { OnErr result (self.new ≡ self.old) }

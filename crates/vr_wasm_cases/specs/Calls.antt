@@ -55,7 +55,8 @@ Fits results memory w args which = FitsResults results memory (replied w which a
 
 -- a reply of a function that is found by these types fits them
 fit_as : (name : List ℕ) (params results : List ValType) (which w : ℕ) (args : List ℕ)
-    (memory : Contents) → found_as name params results ≡ Some which → Fits results memory w args which
+    (memory : Contents) → found_as name params results ≡ Some which
+    → Fits results memory w args which
 fit_as name [] [] which w args memory e =
     either (Fits [] memory w args) (bytes_eq name (codes "rest")) (bytes_eq name (codes "lack"))
     3 4 which e (as_large memory) (as_large memory)

@@ -44,5 +44,6 @@ pub record IsLinked {W : Type 0} (finds : List ℕ → List ℕ → FuncType →
   pub owned : (f : ℕ) → f < length m.functions → IsOwn m p.functions f
   pub memory : IsPaged store.memory
   pub table : All (λ (entry : Option ℕ). IfSome entry (λ f. f < length p.functions)) store.table
-  pub globals : IsTrue (are_of (map (λ (g : GlobalType). g.value) (spaces_of m).globals) store.globals)
+  pub globals : IsTrue
+      (are_of (map (λ (g : GlobalType). g.value) (spaces_of m).globals) store.globals)
   pub replies : RepliesFit finds p.reply

@@ -51,11 +51,27 @@ gives m ls vs (Some (Err trap)) = trapped trap.kind
 
 -- an instruction on integers of this family, at one operand or two, the last one first
 abbrev pub computes : Store → List ℕ → List ℕ → ℕ → NumericFamily → Effect
-computes m ls (i ∷ vs) op (family.Unary t) = if is_of t i then gives m ls vs (option_map (λ f. Ok (unary f (width t) i)) (unary_of t op)) else stuck
-computes m ls (i ∷ vs) op (family.Test t) = if is_of t i then gives m ls vs (option_map (λ f. Ok (bit (compare f (width t) i 0))) (compare_of t op)) else stuck
-computes m ls (i ∷ vs) op (family.Conversion from to) = if is_of from i then gives m ls vs (option_map (λ f. Ok (converted f i)) (conversion_of op)) else stuck
-computes m ls (j ∷ i ∷ vs) op (family.Binary t) = if is_of t i then (if is_of t j then gives m ls vs (option_map (λ f. binary f (width t) i j) (binary_of t op)) else stuck) else stuck
-computes m ls (j ∷ i ∷ vs) op (family.Comparison t) = if is_of t i then (if is_of t j then gives m ls vs (option_map (λ f. Ok (bit (compare f (width t) i j))) (compare_of t op)) else stuck) else stuck
+computes m ls (i ∷ vs) op (family.Unary t) =
+    if is_of t i then gives m ls vs (option_map (λ f. Ok (unary f (width t) i)) (unary_of t op))
+    else stuck
+computes m ls (i ∷ vs) op (family.Test t) =
+    if is_of t i
+    then gives m ls vs (option_map (λ f. Ok (bit (compare f (width t) i 0))) (compare_of t op))
+    else stuck
+computes m ls (i ∷ vs) op (family.Conversion from to) =
+    if is_of from i then gives m ls vs (option_map (λ f. Ok (converted f i)) (conversion_of op))
+    else stuck
+computes m ls (j ∷ i ∷ vs) op (family.Binary t) =
+    if is_of t i then
+    (if is_of t j
+    then gives m ls vs (option_map (λ f. binary f (width t) i j) (binary_of t op)) else stuck)
+    else stuck
+computes m ls (j ∷ i ∷ vs) op (family.Comparison t) =
+    if is_of t i then
+    (if is_of t j
+    then gives m ls vs (option_map (λ f. Ok (bit (compare f (width t) i j))) (compare_of t op))
+    else stuck)
+    else stuck
 computes m ls vs op f = stuck
 
 -- an instruction on integers, where the opcode is one
@@ -74,25 +90,33 @@ extended a v =
 
 -- so many bytes from a place on are there, or the program traps
 abbrev pub if_there : Store → ℕ → ℕ → Effect → Effect
-if_there m at len effect = if nat_le (at + len) (length m.memory.bytes) then effect else trapped MEMORY_OUT_OF_BOUNDS
+if_there m at len effect =
+    if nat_le (at + len) (length m.memory.bytes) then effect else trapped MEMORY_OUT_OF_BOUNDS
 
 abbrev pub loads : Store → List ℕ → List ℕ → ℕ → ℕ → Option MemoryAccess → Effect
 loads m ls vs i offset None = stuck
 loads m ls vs i offset (Some a) =
-    if is_of I32 i then if_there m (i + offset) (2 ^ a.exponent) (leaves 1 m ls (extended a (number_of (part m.memory.bytes (i + offset) (2 ^ a.exponent))) ∷ vs))
+    if is_of I32 i then
+    if_there m (i + offset) (2 ^ a.exponent)
+    (leaves 1 m ls
+    (extended a (number_of (part m.memory.bytes (i + offset) (2 ^ a.exponent))) ∷ vs))
     else stuck
 
 abbrev pub stores : Store → List ℕ → List ℕ → ℕ → ℕ → ℕ → Option MemoryAccess → Effect
 stores m ls vs i v offset None = stuck
 stores m ls vs i v offset (Some a) =
-    if is_of I32 i then if_there m (i + offset) (2 ^ a.exponent) (leaves 1 (with_memory m (with_piece m.memory (i + offset) (bytes_of (2 ^ a.exponent) v))) ls vs)
+    if is_of I32 i then
+    if_there m (i + offset) (2 ^ a.exponent)
+    (leaves 1
+    (with_memory m (with_piece m.memory (i + offset) (bytes_of (2 ^ a.exponent) v))) ls vs)
     else stuck
 
 -- the size before, or 2 ^ 32 - 1 where the pages are too many
 abbrev pub grows : Store → List ℕ → List ℕ → ℕ → Effect
 grows m ls vs more =
     if is_of I32 more then
-    (if nat_le (pages_of m.memory + more) m.memory.most then leaves 1 (with_memory m (with_pages m.memory more)) ls (pages_of m.memory ∷ vs)
+    (if nat_le (pages_of m.memory + more) m.memory.most
+    then leaves 1 (with_memory m (with_pages m.memory more)) ls (pages_of m.memory ∷ vs)
     else leaves 1 m ls ((2 ^ 32 - 1) ∷ vs))
     else stuck
 
@@ -101,10 +125,16 @@ abbrev pub cost_of : ℕ → ℕ
 cost_of len = 1 + len / 16
 
 abbrev pub copies : Store → List ℕ → List ℕ → ℕ → ℕ → ℕ → Effect
-copies m ls vs to from len = if_there m to len (if_there m from len (leaves (cost_of len) (with_memory m (with_piece m.memory to (part m.memory.bytes from len))) ls vs))
+copies m ls vs to from len =
+    if_there m to len
+    (if_there m from len
+    (leaves (cost_of len)
+    (with_memory m (with_piece m.memory to (part m.memory.bytes from len))) ls vs))
 
 abbrev pub fills : Store → List ℕ → List ℕ → ℕ → ℕ → ℕ → Effect
-fills m ls vs at v len = if_there m at len (leaves (cost_of len) (with_memory m (with_piece m.memory at (replicate len (v % 256)))) ls vs)
+fills m ls vs at v len =
+    if_there m at len
+    (leaves (cost_of len) (with_memory m (with_piece m.memory at (replicate len (v % 256)))) ls vs)
 
 -- ---- variables
 
@@ -117,7 +147,9 @@ abbrev pub sets_local : Store → List ℕ → List ℕ → ℕ → ℕ → Effe
 sets_local m ls vs x v = if nat_lt x (length ls) then leaves 1 m (slice_set ls x v) vs else stuck
 
 abbrev pub sets_global : Store → List ℕ → List ℕ → ℕ → ℕ → Effect
-sets_global m ls vs x v = if nat_lt x (length m.globals) then leaves 1 (with_globals m (slice_set m.globals x v)) ls vs else stuck
+sets_global m ls vs x v =
+    if nat_lt x (length m.globals) then leaves 1 (with_globals m (slice_set m.globals x v)) ls vs
+    else stuck
 
 -- ---- all of them: the store, the locals and the operands before the instruction
 

@@ -43,10 +43,14 @@ FitsResults results memory reply = ⊥
 
 -- the host has a function of this number, whose parameters fit the arguments
 abbrev pub IsAskable : (List ℕ → List ℕ → FuncType → Option ℕ) → ℕ → List ℕ → Type 0
-IsAskable finds which args = (from : List ℕ) × (name : List ℕ) × (sort : FuncType) × (finds from name sort ≡ Some which) × IsTrue (are_of sort.params args)
+IsAskable finds which args =
+    (from : List ℕ) × (name : List ℕ) × (sort : FuncType) × (finds from name sort ≡ Some which)
+    × IsTrue (are_of sort.params args)
 
 -- each reply to a call that may be made fits the function's results
-abbrev pub RepliesFit : {W : Type 0} → (List ℕ → List ℕ → FuncType → Option ℕ) → (W → ℕ → List ℕ → Contents → Reply W) → Type 0
+abbrev pub RepliesFit : {W : Type 0} → (List ℕ → List ℕ → FuncType → Option ℕ)
+    → (W → ℕ → List ℕ → Contents → Reply W) → Type 0
 RepliesFit {W} finds reply =
     (from name : List ℕ) (sort : FuncType) (which : ℕ) (w : W) (args : List ℕ) (memory : Contents)
-    → finds from name sort ≡ Some which → IsTrue (are_of sort.params args) → FitsResults sort.results memory (reply w which args memory)
+    → finds from name sort ≡ Some which → IsTrue (are_of sort.params args)
+    → FitsResults sort.results memory (reply w which args memory)

@@ -7,13 +7,17 @@ use Rattle.vr_wasm_steps.specs.Terms.{end}
 -- so many rows, which cost so much together, lead from one configuration to another
 unfoldable pub Rows : {W : Type 0} → Program W → ℕ → ℕ → Config W → Config W → Type 0
 Rows p zero n k k' = (n ≡ 0) × (k ≡ k')
-Rows {W} p (suc rows) n k k' = (cost : ℕ) × (rest : ℕ) × (middle : Config W) × (n ≡ cost + rest) × (next p k ≡ step cost middle) × Rows p rows rest middle k'
+Rows {W} p (suc rows) n k k' =
+    (cost : ℕ) × (rest : ℕ) × (middle : Config W) × (n ≡ cost + rest)
+    × (next p k ≡ step cost middle) × Rows p rows rest middle k'
 
 -- It ends in n steps with this code, in this world: only values are left and no function is to be called, which is
 -- code 0, or the last step was an exit.
 pub data Ends {W : Type 0} (p : Program W) (n : ℕ) (k : Config W) (code : ℕ) (w : W) : Type 0 where
-  at_end : (rows : ℕ) (last : Config W) → Rows p rows n k last → next p last ≡ over → code ≡ 0 → w ≡ last.world → Ends p n k code w
-  by_exit : (rows before : ℕ) (last : Config W) → n ≡ before + 1 → Rows p rows before k last → next p last ≡ exits_with code w → Ends p n k code w
+  at_end : (rows : ℕ) (last : Config W) → Rows p rows n k last → next p last ≡ over → code ≡ 0
+      → w ≡ last.world → Ends p n k code w
+  by_exit : (rows before : ℕ) (last : Config W) → n ≡ before + 1 → Rows p rows before k last
+      → next p last ≡ exits_with code w → Ends p n k code w
 
 -- it traps in n steps, the last of which is the trap
 pub record Traps {W : Type 0} (p : Program W) (n : ℕ) (k : Config W) (kind : ℕ) : Type 0 where
@@ -35,4 +39,5 @@ NeverLost {W} p k = (rows n : ℕ) (last : Config W) → Rows p rows n k last �
 
 -- before the first step: the start function and then another one are to be called from outside
 abbrev pub start : {W : Type 0} → Store → W → Option ℕ → ℕ → Config W
-start m w first main = record { store = m; world = w; term = end; calls = option_to_list first ++ main ∷ [] }
+start m w first main =
+    record { store = m; world = w; term = end; calls = option_to_list first ++ main ∷ [] }

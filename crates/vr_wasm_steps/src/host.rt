@@ -39,7 +39,8 @@ pub trait Host {
     /// Calls a function by its number.
     fn call(&mut self, which: u32, args: &[u64], memory: &mut Memory) -> HostAnswer
         requires { IsAskable finds which args.now }
-        ensures answer { IsReply (reply (world self.old) which args.now memory.old) result memory.new (world self.new) }
+        ensures answer { IsReply (reply (world self.old) which args.now memory.old) result
+            memory.new (world self.new) }
         ensures counted { stops self.old ≤ stops self.new }
         ensures stopped { result ≡ HostAnswer.NoMemory → Rose (stops self.old) (stops self.new) }
         ensures unchanged { result ≡ HostAnswer.NoMemory
