@@ -6,7 +6,6 @@ pub mod ListLemmas
 pub mod LoadLemmas
 pub mod ObserveLemmas
 pub mod OnceLemmas
-pub mod Pages
 pub mod PathLemmas
 pub mod ProgramLemmas
 pub mod RunLemmas

@@ -15,7 +15,8 @@ use Rattle.vr_policy_check.specs.Rules.{CheckedData}
 use Rattle.vr_policy_read.specs.declared.entries.Pin.{Pin}
 use Rattle.vr_exec.specs.declared.starts.NotReady.{NotReady}
 use Rattle.vr_exec.specs.declared.starts.NotReady.TheVariants.{NoSuchFile, PinMissing, PinMismatch, OutOfMemory}
-use Rattle.vr_exec.specs.Starts.{Gives, missing_file, HaveFiles, observes_path, digits_of, bytes_fault, pin_fault, first_pin_fault, HasPinnedHash, ready_answer, MayStart}
+use Rattle.vr_digests.specs.Digests.{digits_of}
+use Rattle.vr_exec.specs.Starts.{Gives, missing_file, HaveFiles, observes_path, bytes_fault, pin_fault, first_pin_fault, HasPinnedHash, ready_answer, MayStart}
 
 none_missing : (files : FileMap) (paths : List (List ℕ)) → missing_file paths files ≡ None → HaveFiles files paths
 none_missing files [] h = All-nil (λ path. IsSome (get files path))

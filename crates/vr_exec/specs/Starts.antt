@@ -3,9 +3,8 @@
 use Rattle.std.specs.Prelude.{◌≡◌, ℕ, Bool, false, not, bytes_eq, is_none, List, [], ◌∷◌, find, Option, Some, None, option_map, slice_get, Result, All, IsSome, IsTrue, if◌then◌else◌}
 use Rattle.std.specs.FinMap.{get}
 use Rattle.std.specs.Option.{option_map_or, option_or}
-use Rattle.hex.specs.Hex.{encode_lower}
-use Rattle.sha2.specs.Sha256.{sha256}
 use Rattle.vr_base.specs.Checks.{◌>>◌, Told, nothing, exactly, GivesBy, fault_if, unless_fault}
+use Rattle.vr_digests.specs.Digests.{digits_of}
 use Rattle.vr_files.specs.FileMaps.{FileMap}
 use Rattle.vr_pipe.specs.declared.trees.Tree.{Tree}
 use Rattle.vr_pipe.specs.Trees.{PipeTree, pipe_tree, programs_of}
@@ -33,10 +32,6 @@ HaveFiles files paths = All (λ path. IsSome (get files path)) paths
 abbrev pub observes_path : CheckedData → PipeTree → List ℕ → Bool
 observes_path checked pipe path =
     option_map_or (pipeline_observes checked.policy pipe) (region_of (names_of checked) path) false
-
--- the SHA-256 (FIPS 180-4) of bytes in 64 lower-case hex digits
-abbrev pub digits_of : List ℕ → List ℕ
-digits_of bytes = encode_lower (sha256 bytes)
 
 -- what is wrong with the bytes of a pinned file, where it is there
 abbrev pub bytes_fault : Pin → Option (List ℕ) → Option NotReady
@@ -92,4 +87,5 @@ pub record MayStart (checked : CheckedData) (pipe : PipeTree) (files : FileMap) 
 -- the run of the pipeline at a place of the policy may start
 abbrev pub MayStartAt : CheckedData → ℕ → FileMap → Type 0
 MayStartAt checked place files =
-    (tree : Tree) → slice_get checked.pipes place ≡ Some tree → MayStart checked (pipe_tree tree) files
+    (tree : Tree) → slice_get checked.pipes place ≡ Some tree
+    → MayStart checked (pipe_tree tree) files

@@ -220,7 +220,8 @@ fn run_loaded(
     files: Files,
     fuel: u64,
 ) -> Result<Outcome, NoMemory>
-    requires { AreLoaded policy.now.pages files.map (programs_of (pipe_tree tree.now)) programs.now }
+    requires { AreLoaded policy.now.pages files.map (programs_of (pipe_tree tree.now))
+        programs.now }
     ensures { IfOk result (ComesTo policy.now (pipe_tree tree.now) files.map fuel) }
 {
     let runner = Runner {

@@ -9,8 +9,8 @@ ghost use Rattle.vr_pipe.specs.Trees.{pipe_tree};
 ghost use Rattle.vr_rights.specs.Tables.{IsRegionsOf};
 ghost use Rattle.vr_exec.specs.Starts.{Gives, GivesAt, MayStartAt, bytes_fault, missing_file, observes_path, pin_fault};
 
-use crate::digests::file_digits;
 use vr_base::{NoMemory, Path};
+use vr_digests::file_digits;
 use vr_files::Files;
 use vr_flow::observes;
 use vr_policy_check::CheckedPolicy;

@@ -1,6 +1,7 @@
 -- Connections that were served one after the other.
 use Rattle.std.proofs.Common.{◌≡◌, ℕ, ◌+◌, ◌||◌, Bool, true, false, List, [], ◌∷◌, ◌++◌, length, map, Option, Some, None, refl, ap, sym, ◌∙◌, subst, arith, append-nil, append_assoc, length-append}
 use Rattle.std.specs.Option.{IfSome}
+use Rattle.std.specs.Prelude.{option_map}
 use Rattle.std.proofs.lemmas.List.{map-append}
 use Rattle.std.proofs.lemmas.List.Folds.{list_any-append}
 use Rattle.vr_base.specs.Links.{EndedLink, IsFresh, IsGivenBack}
@@ -78,11 +79,10 @@ counted_none None = tt
 counted_none (Some count) = ap (λ (n : ℕ). Some n) (omega arith)
 
 counted_more : (handed mid new : Option ℕ) (visits : List Visit) (visit : Visit) → IfSome handed (λ count. mid ≡ Some (count + length visits))
-    → IfSome mid (λ count. new ≡ Some (count + 1)) → IfSome handed (λ count. new ≡ Some (count + length (visits ++ visit ∷ [])))
+    → new ≡ option_map (λ count. count + 1) mid → IfSome handed (λ count. new ≡ Some (count + length (visits ++ visit ∷ [])))
 counted_more None mid new visits visit h k = tt
 counted_more (Some count) mid new visits visit h k =
-    let told = subst (λ (known : Option ℕ). IfSome known (λ count. new ≡ Some (count + 1))) h k in
-    told ∙ ap (λ (n : ℕ). Some n) (omega (arith, length-append visits (visit ∷ [])))
+    k ∙ ap (option_map (λ count. count + 1)) h ∙ ap (λ (n : ℕ). Some n) (omega (arith, length-append visits (visit ∷ [])))
 
 -- before anything was handed out
 pub attends_none : (keys : Keys) (seat : ℕ) (old : Option (List EndedLink)) (handed : Option ℕ) (state : DeskState)
@@ -106,7 +106,7 @@ or_swap false false c d e f = rw (← e, ← f) refl
 module _ (keys : Keys) (seat : ℕ) (old mid : Option (List EndedLink)) (handed counted new_count : Option ℕ) (before between after : DeskState) (wanted more : Bool) where
   more_attended : (first list : List EndedLink) → Attends keys seat old first handed counted before between wanted
       → (given : GivesBack keys seat mid list between after more) → given.first ≡ first
-      → IfSome counted (λ count. new_count ≡ Some (count + 1))
+      → new_count ≡ option_map (λ count. count + 1) counted
       → Attends keys seat old list handed new_count before after (wanted || more)
   more_attended first list h given e k = record {
     first = h.first;
@@ -124,7 +124,7 @@ module _ (keys : Keys) (seat : ℕ) (old mid : Option (List EndedLink)) (handed 
   -- a connection that was handed out, served and given back after the others
   pub attends_more : (new : Option (List EndedLink)) → IfSome mid (λ list. Attends keys seat old list handed counted before between wanted)
       → IfSome new (λ list. GivesBack keys seat mid list between after more)
-      → IfSome counted (λ count. new_count ≡ Some (count + 1))
+      → new_count ≡ option_map (λ count. count + 1) counted
       → IfSome new (λ list. Attends keys seat old list handed new_count before after (wanted || more))
   attends_more None h given k = tt
   attends_more (Some list) h given k = more_attended given.first list

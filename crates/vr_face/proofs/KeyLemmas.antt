@@ -8,8 +8,8 @@ use Rattle.vr_base.specs.Cuts.{parts_at}
 use Rattle.vr_base.specs.Signs.{space}
 use Rattle.vr_face.specs.Holders.{Holds}
 use Rattle.vr_face.specs.Keys.{Holding, holder_of, keyed_by, keys_from, line_added, listed_id}
-use Rattle.vr_face.specs.Lines.{is_skipped, words_of}
-use Rattle.vr_face.proofs.LineLemmas.{parts_first}
+use Rattle.vr_text.specs.Lines.{is_skipped, words_of}
+use Rattle.vr_text.proofs.LineLemmas.{parts_first}
 
 -- more than one word is no key
 pub no_key_of_more : (word rest : List ℕ) → keyed_by (word ∷ parts_at space rest) ≡ None

@@ -1,5 +1,5 @@
 -- What a response may be written with.
-use Rattle.std.proofs.Common.{◌≡◌, ℕ, List, [], ◌++◌, codes, append-nil, refl, sym, subst, arith}
+use Rattle.std.proofs.Common.{◌≡◌, ℕ, List, codes, refl, sym, subst, arith}
 use Rattle.std.specs.List.{list_any}
 use Rattle.std.specs.Prelude.{◌==◌, IsTrue}
 use Rattle.vr_base.specs.declared.calls.Reply.{Reply}
@@ -7,13 +7,10 @@ use Rattle.vr_base.specs.declared.calls.Reply.TheVariants.{Stored, Read, Ended, 
 use Rattle.vr_http.specs.Responses.{IsWritable, statuses}
 use Rattle.vr_http.specs.declared.responses.Response.{Response}
 use Rattle.vr_face.specs.Answers.{answer_response, refusal_status, reply_response, said}
-use Rattle.vr_face.specs.Refusals.{refusal_text}
+use Rattle.vr_text.specs.Refusals.{refusal_text}
 use Rattle.vr_face.specs.declared.answers.Answer.{Answer}
 use Rattle.vr_face.specs.declared.answers.Answer.TheVariants.{Replied, NoRoute, BadMethod}
 use Rattle.vr_face.specs.declared.responding.Manner.{Manner}
-
-pub nothing_more : (text : List ℕ) → text ++ [] ≡ text
-nothing_more text = append-nil text
 
 -- a status that is answered with a text
 abbrev IsSaid : ℕ → Type 0

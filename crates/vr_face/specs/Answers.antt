@@ -8,7 +8,7 @@ use Rattle.vr_http.specs.declared.requests.Request.{Request}
 use Rattle.vr_http.specs.declared.responses.BodyKind.{BodyKind}
 use Rattle.vr_http.specs.declared.responses.BodyKind.TheVariants as kinds
 use Rattle.vr_http.specs.declared.responses.Response.{Response}
-use Rattle.vr_face.specs.Refusals.{refusal_text}
+use Rattle.vr_text.specs.Refusals.{refusal_text}
 use Rattle.vr_face.specs.declared.answers.Answer.{Answer}
 use Rattle.vr_face.specs.declared.answers.Answer.TheVariants.{Replied, NoRoute, BadMethod}
 use Rattle.vr_face.specs.declared.answers.Methods.{Methods}

@@ -7,7 +7,7 @@ use Rattle.vr_base.specs.declared.calls.Call.TheVariants as calls
 use Rattle.vr_base.specs.declared.calls.Reply.TheVariants.{BadPath, Unkeyed}
 use Rattle.vr_http.specs.declared.requests.Request.{Request}
 use Rattle.vr_face.specs.Holders.{who}
-use Rattle.vr_face.specs.Numerals.{id_of}
+use Rattle.vr_text.specs.Numerals.{id_of}
 use Rattle.vr_face.specs.Resources.{Resource, FileNamed, PipelineNamed, HashOfPolicy, resource_of}
 use Rattle.vr_face.specs.declared.answers.Answer.{Answer}
 use Rattle.vr_face.specs.declared.answers.Answer.TheVariants.{Replied, NoRoute, BadMethod}

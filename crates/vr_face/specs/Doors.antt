@@ -1,5 +1,5 @@
 -- Connections as a door hands them out and takes them back, and what a desk has seen of them.
-use Rattle.std.specs.Prelude.{◌≡◌, ℕ, ◌+◌, ◌≤◌, Bool, true, false, List, [], ◌∷◌, ◌++◌, length, map, Option, Some, None, IfSome, Result, Ok, Err, if◌then◌else◌}
+use Rattle.std.specs.Prelude.{◌≡◌, ◌↔◌, ℕ, ◌+◌, ◌≤◌, Bool, true, false, List, [], ◌∷◌, ◌++◌, length, map, Option, Some, None, IfSome, option_map, Result, Ok, Err, if◌then◌else◌}
 use Rattle.std.specs.List.{list_any}
 use Rattle.vr_base.specs.Links.{EndedLink}
 use Rattle.vr_base.specs.declared.calls.Entry.{Entry}
@@ -27,14 +27,13 @@ Lowers old new (Err failed) = new ≤ old
 
 -- Where the number handed out is told, it is one more with a connection, and else the same.
 abbrev pub Counts : {C : Type 0} → Option ℕ → Option ℕ → Result (Option C) Failed → Type 0
-Counts old new (Ok (Some conn)) = IfSome old (λ count. new ≡ Some (count + 1))
+Counts old new (Ok (Some conn)) = new ≡ option_map (λ count. count + 1) old
 Counts old new (Ok None) = new ≡ old
 Counts old new (Err failed) = new ≡ old
 
--- Where the number handed out is told, there is no connection only where no more may be handed out.
+-- Where the number handed out is told, there is no connection exactly where no more might be handed out.
 abbrev pub IsOver : {C : Type 0} → Option ℕ → ℕ → Result (Option C) Failed → Type 0
-IsOver told left (Ok None) = IfSome told (λ _. left ≡ 0)
-IsOver told left result = Unit {0}
+IsOver told left result = IfSome told (λ _. (result ≡ Ok None) ↔ (left ≡ 0))
 
 -- ---- connections that were served one after the other
 

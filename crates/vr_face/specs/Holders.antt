@@ -21,13 +21,15 @@ abbrev pub Holds : BTreeMap (List ℕ) ℕ → List Holding → Type 0
 Holds holders held = (key : List ℕ) → found holders key ≡ holder_of held key
 
 -- The map is of what is held with one line more, or the line of this number is refused.
-abbrev pub Added : ℕ → BTreeMap (List ℕ) ℕ → Option (List Holding) → Result (Unit {0}) KeysFault → Type 0
+abbrev pub Added : ℕ → BTreeMap (List ℕ) ℕ → Option (List Holding) → Result (Unit {0}) KeysFault
+    → Type 0
 Added number new after (Ok done) = (held : List Holding) × (after ≡ Some held) × Holds new held
 Added number new after (Err (Line refused)) = (after ≡ None) × (refused ≡ number)
 Added number new after (Err OutOfMemory) = Unit {0}
 
 -- The same, of whatever the map stood for before.
-abbrev pub AddsLine : List ℕ → ℕ → List ℕ → BTreeMap (List ℕ) ℕ → BTreeMap (List ℕ) ℕ → Result (Unit {0}) KeysFault → Type 0
+abbrev pub AddsLine : List ℕ → ℕ → List ℕ → BTreeMap (List ℕ) ℕ → BTreeMap (List ℕ) ℕ
+    → Result (Unit {0}) KeysFault → Type 0
 AddsLine policy number line old new result =
     (before : List Holding) → Holds old before
     → Added number new (line_added policy before line) result
@@ -36,6 +38,7 @@ AddsLine policy number line old new result =
 -- memory ran out.
 abbrev pub GivesKeys : Result Keys KeysFault → Result (List Holding) ℕ → Type 0
 GivesKeys (Ok keys) answer =
-    (held : List Holding) × (answer ≡ Ok held) × ((key : List ℕ) → who keys key ≡ holder_of held key)
+    (held : List Holding) × (answer ≡ Ok held)
+    × ((key : List ℕ) → who keys key ≡ holder_of held key)
 GivesKeys (Err (Line number)) answer = answer ≡ Err number
 GivesKeys (Err OutOfMemory) answer = Unit {0}

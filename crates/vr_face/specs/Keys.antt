@@ -4,8 +4,8 @@ use Rattle.std.specs.List.{list_any}
 use Rattle.std.specs.Str.Lines.{lines}
 use Rattle.vr_base.specs.Checks.{◌>>=◌, or_fault}
 use Rattle.vr_http.specs.Fields.{key_by}
-use Rattle.vr_face.specs.Lines.{is_skipped, words_of}
-use Rattle.vr_face.specs.Numerals.{id_of}
+use Rattle.vr_text.specs.Lines.{is_skipped, words_of}
+use Rattle.vr_text.specs.Numerals.{id_of}
 
 -- A key in lower case, and the identity that holds it.
 abbrev pub Holding : Type 0

@@ -3,10 +3,7 @@ pub mod Asks
 pub mod Doors
 pub mod Holders
 pub mod Keys
-pub mod Lines
-pub mod Numerals
 pub mod Porches
-pub mod Refusals
 pub mod Resources
 pub mod Table
 pub mod Targets

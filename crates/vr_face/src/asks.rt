@@ -5,13 +5,13 @@ ghost use Rattle.vr_face.specs.Targets.{resource_by};
 
 use crate::answers::{Answer, Methods};
 use crate::keys::Keys;
-use crate::numerals::read_id;
 use crate::targets::{Target, read_target};
 use http::Method;
 use matchit::Router;
 use std::alloc::Global;
 use vr_base::{Bytes, Call, NoMemory, Path, PathFault, Reply, parse_path};
 use vr_http::Request;
+use vr_text::read_id;
 
 /// A call of an identity.
 #[derive(Drop)]

@@ -33,7 +33,7 @@ pub trait Door {
             (λ _. IsSome (Self.Conn.input conn) × IsSome (Self.Conn.written conn)) }
         ensures left { Lowers (left self.old) (left self.new) result }
         ensures handed_out { Counts (handed_out self.old) (handed_out self.new) result }
-        ensures over { IsOver (handed_out self.old) (left self.new) result }
+        ensures over { IsOver (handed_out self.old) (left self.old) result }
         ensures ended { ended self.new ≡ ended self.old }
         ensures cause { HasCause (faults self.old) (faults self.new) result };
 

@@ -8,11 +8,10 @@ ghost use Rattle.vr_http.specs.Fields.{is_key, key_by};
 ghost use Rattle.vr_face.specs.Keys.{keyed_by, keys_of, listed_id, most_keys};
 ghost use Rattle.vr_face.specs.Holders.{AddsLine, GivesKeys, who};
 
-use crate::lines::{cut_line, is_skipped};
-use crate::numerals::read_id;
 use std::alloc::{AllocFailed, Global};
 use std::collections::BTreeMap;
 use vr_base::cut_at;
+use vr_text::{cut_line, is_skipped, read_id};
 
 /// The most bytes of a keys file.
 const MOST_KEYS: usize = 1_048_576;

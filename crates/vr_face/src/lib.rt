@@ -6,14 +6,10 @@ mod answers;
 mod asks;
 mod doors;
 mod keys;
-mod lines;
-mod numerals;
 mod porch;
-mod refusals;
 mod responding;
 mod sessions;
 mod targets;
-mod writer;
 
 pub use answers::{Answer, Methods};
 pub use asks::{Ask, AskFault, read_ask};

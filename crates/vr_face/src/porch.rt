@@ -48,6 +48,7 @@ pub struct Porch<L: Listener + Drop, K: Opening> {
     ghost spent: { failed ≡ true → left ≡ 0 },
     ghost together: { failed ≡ false →
         L.handed_out listener + left ≡ K.handed_out + K.left },
+    ghost most: { L.handed_out listener + left ≤ K.handed_out + K.left },
     ghost risen: { failed ≡ true → Rose K.faults (L.faults listener) },
     ghost later: { K.faults ≤ L.faults listener },
     ghost listens: { L.listens listener ≡ K.listens },
@@ -95,6 +96,7 @@ impl<L: Listener + Drop, K: Opening> Porch<L, K> {
         ensures listener { result ≡ self.listener }
         ensures together { self.failed ≡ false →
             L.handed_out result + self.left ≡ K.handed_out + K.left }
+        ensures most { L.handed_out result ≤ K.handed_out + K.left }
         ensures risen { self.failed ≡ true → Rose K.faults (L.faults result) }
         ensures later { K.faults ≤ L.faults result }
         ensures listens { L.listens result ≡ K.listens }
@@ -131,7 +133,7 @@ impl<L: Listener + Drop, K: Opening> Door for Porch<L, K> {
         ensures left { Lowers self.old.left self.new.left result }
         ensures handed_out { Counts (Some (L.handed_out self.old.listener))
             (Some (L.handed_out self.new.listener)) result }
-        ensures over { IsOver (Some (L.handed_out self.old.listener)) self.new.left result }
+        ensures over { IsOver (Some (L.handed_out self.old.listener)) self.old.left result }
         ensures ended { L.ended self.new.listener ≡ L.ended self.old.listener }
         ensures cause { HasCause (L.faults self.old.listener) (L.faults self.new.listener) result }
         ensures failed { OnErr result (self.new.failed ≡ true) }

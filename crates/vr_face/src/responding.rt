@@ -2,15 +2,14 @@ ghost use Rattle.std.specs.Prelude.{◌≡◌, ◌++◌, ◌∷◌, [], length, 
 ghost use Rattle.vr_base.specs.Signs.{line_feed};
 ghost use Rattle.vr_http.specs.Responses.{IsWritable};
 ghost use Rattle.vr_face.specs.Answers.{allow_text, answer_response, manner_of, plain, refusal_response, refusal_status, reply_response, response_in, said};
-ghost use Rattle.vr_face.specs.Refusals.{refusal_text};
+ghost use Rattle.vr_text.specs.Refusals.{refusal_text};
 
 use crate::answers::{Answer, Methods};
-use crate::refusals::write_refusal;
-use crate::writer::Writer;
 use http::StatusCode;
 use std::alloc::Global;
 use vr_base::{Bytes, NoMemory, Reply};
 use vr_http::{BodyKind, Request, Response};
+use vr_text::{Writer, write_refusal};
 
 /// The most requests of a connection.
 pub const MOST_REQUESTS: u32 = 65_536;

@@ -7,7 +7,7 @@ use Rattle.vr_base.specs.Signs.{space}
 use Rattle.vr_base.specs.declared.calls.Call.TheVariants.{Write, Append}
 use Rattle.vr_report.specs.Lines.{empty_of, text_of, hex_of, fill_of, call_of, keeping_call}
 use Rattle.vr_report.specs.declared.reading.LineFault.TheVariants.{Form}
-use Rattle.vr_report.proofs.Parts.{parts_first}
+use Rattle.vr_text.proofs.LineLemmas.{parts_first}
 
 -- nothing may come after "empty"
 pub empty_without_words : (rest : List ℕ) → empty_of (parts_at space rest) ≡ Err Form

@@ -12,7 +12,7 @@ use Rattle.vr_flow.specs.Flows.{flows_of}
 use Rattle.vr_flow.proofs.LoopLemmas.{step}
 use Rattle.vr_flow.specs.Reach.{ReachData, IsReachOf}
 use Rattle.vr_report.specs.Flows.{words_from, flow_line, reach_at, HasFlowLines}
-use Rattle.vr_report.specs.Texts.{word}
+use Rattle.vr_text.specs.Words.{word}
 
 -- ---- words
 

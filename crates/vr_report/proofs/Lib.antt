@@ -1,7 +1,4 @@
-mod Pages
 pub mod Calls
 pub mod Contents
-pub mod Digits
 pub mod FileLines
 pub mod FlowLines
-pub mod Parts

@@ -8,7 +8,7 @@ use Rattle.vr_rights.specs.Tables.{RegionsData, IsRegionsOf}
 use Rattle.vr_flow.specs.Flows.{flows_of}
 use Rattle.vr_flow.specs.Places.{has_place}
 use Rattle.vr_flow.specs.Reach.{ReachData, IsReachOf}
-use Rattle.vr_report.specs.Texts.{word, number}
+use Rattle.vr_text.specs.Words.{word, number}
 
 -- a word for each of the entries at whose places, counted from this one on, a test passes
 abbrev pub words_from : {A : Type 0} → (A → List ℕ) → (ℕ → Bool) → ℕ → List A → List ℕ

@@ -10,6 +10,7 @@ use Rattle.vr_base.specs.Cuts.{parts_at}
 use Rattle.vr_base.specs.Signs.{space, carriage_return}
 use Rattle.vr_base.specs.declared.calls.Call.{Call}
 use Rattle.vr_base.specs.declared.calls.Call.TheVariants.{Read, Write, Append, Run, Hash}
+use Rattle.vr_text.specs.Numerals.{id_of}
 use Rattle.vr_report.specs.declared.reading.LineFault.{LineFault}
 use Rattle.vr_report.specs.declared.reading.LineFault.TheVariants.{Form, OutOfMemory}
 
@@ -17,21 +18,14 @@ use Rattle.vr_report.specs.declared.reading.LineFault.TheVariants.{Form, OutOfMe
 abbrev pub Reading : Type 0 → Type 0
 Reading A = Result A LineFault
 
--- more than one digit, of which the first is 0
-abbrev pub has_leading_zero : List ℕ → Bool
-has_leading_zero word = nat_lt 1 (length word) && starts_with nat_eq word (codes "0")
-
--- decimal digits, one at least, without a leading zero
-abbrev pub is_numeral : List ℕ → Bool
-is_numeral word = not (length word == 0) && list_all is_ascii_digit word && not (has_leading_zero word)
-
--- the number of 32 bits that the digits stand for
-abbrev pub id_of : List ℕ → Reading ℕ
-id_of word = if is_numeral word && nat_lt (digits_value 10 word) (2 ^ 32) then Ok (digits_value 10 word) else Err Form
+-- the number of 32 bits that a word's digits stand for
+abbrev pub number_of : List ℕ → Reading ℕ
+number_of word = or_fault Form (id_of word)
 
 -- a name as it is: one byte at least, and no carriage return. Spaces and line feeds part the words.
 abbrev pub name_of : List ℕ → Reading (List ℕ)
-name_of word = if (length word == 0) || list_any (λ b. b == carriage_return) word then Err Form else Ok word
+name_of word =
+    if (length word == 0) || list_any (λ b. b == carriage_return) word then Err Form else Ok word
 
 -- ---- what is written: a kind, and the words after it
 
@@ -47,12 +41,14 @@ text_of (word ∷ words) = Ok (join_with_byte space (word ∷ words))
 
 -- the bytes that hex digits of either case spell, one at least
 abbrev pub hex_of : List (List ℕ) → Reading (List ℕ)
-hex_of (digits ∷ []) = if length digits == 0 then Err Form else or_fault Form (result_ok (decode_of digits))
+hex_of (digits ∷ []) =
+    if length digits == 0 then Err Form else or_fault Form (result_ok (decode_of digits))
 hex_of words = Err Form
 
 -- the byte that two hex digits spell
 abbrev pub byte_of : List ℕ → Reading ℕ
-byte_of digits = result_map (λ bytes. slice_index bytes 0) (or_fault Form (result_ok (decode_sized digits 1)))
+byte_of digits =
+    result_map (λ bytes. slice_index bytes 0) (or_fault Form (result_ok (decode_sized digits 1)))
 
 -- the most bytes that a line fills: one more than a file may have
 abbrev pub most_fill : ℕ
@@ -61,7 +57,7 @@ most_fill = 16777217
 -- how many bytes a line fills
 abbrev pub count_of : List ℕ → Reading ℕ
 count_of word = do
-  count ← id_of word
+  count ← number_of word
   unless_fault (fault_if (nat_lt most_fill count) Form) count
 
 -- so many times one byte
@@ -92,7 +88,8 @@ keeping_call make word kind words = do
 abbrev pub naming_call : List ℕ → List ℕ → Reading Call
 naming_call verb word =
     if bytes_eq verb (codes "read") then result_map (λ name. Read name) (name_of word)
-    else (if bytes_eq verb (codes "run") then result_map (λ pipeline. Run pipeline) (id_of word) else Err Form)
+    else (if bytes_eq verb (codes "run") then result_map (λ pipeline. Run pipeline) (number_of word)
+    else Err Form)
 
 -- the call that the words stand for
 abbrev pub call_of : List (List ℕ) → Reading Call
@@ -100,20 +97,18 @@ call_of [] = Err Form
 call_of (verb ∷ []) = if bytes_eq verb (codes "hash") then Ok Hash else Err Form
 call_of (verb ∷ word ∷ []) = naming_call verb word
 call_of (verb ∷ word ∷ kind ∷ words) =
-    if bytes_eq verb (codes "write") then keeping_call (λ name body. Write name body) word kind words
-    else (if bytes_eq verb (codes "append") then keeping_call (λ name body. Append name body) word kind words else Err Form)
+    if bytes_eq verb (codes "write")
+    then keeping_call (λ name body. Write name body) word kind words
+    else (if bytes_eq verb (codes "append")
+    then keeping_call (λ name body. Append name body) word kind words else Err Form)
 
 -- the identity and the call that the words of a line stand for
 abbrev pub asked_by : List (List ℕ) → Reading (ℕ × Call)
 asked_by [] = Err Form
 asked_by (id ∷ words) = do
-  who ← id_of id
+  who ← number_of id
   call ← call_of words
   Ok (who, call)
-
--- the words of a line, with one space between each two
-abbrev pub words_of : List ℕ → List (List ℕ)
-words_of line = parts_at space line
 
 -- what a fault of the code tells
 abbrev pub told : LineFault → Told LineFault

@@ -1,22 +1,18 @@
 -- Scripts: what calls the lines of a text stand for.
-use Rattle.std.specs.Prelude.{ℕ, ◌+◌, Bool, ◌||◌, ◌==◌, nat_eq, nat_lt, List, [], ◌∷◌, ◌++◌, length, codes, map, Option, Some, None, Result, Ok, Err, if◌then◌else◌}
-use Rattle.std.specs.List.{starts_with}
+use Rattle.std.specs.Prelude.{ℕ, ◌+◌, nat_lt, List, [], ◌∷◌, ◌++◌, length, map, Option, Some, None, Result, Ok, Err, if◌then◌else◌}
 use Rattle.std.specs.Option.{option_to_list}
 use Rattle.std.specs.Str.Lines.{lines}
 use Rattle.vr_base.specs.Checks.{◌>>=◌, result_map, result_map_err, Told, nothing, exactly, GivesBy}
 use Rattle.vr_base.specs.declared.calls.Call.{Call}
-use Rattle.vr_report.specs.Lines.{asked_by, words_of}
+use Rattle.vr_report.specs.Lines.{asked_by}
 use Rattle.vr_report.specs.declared.script.Line.{Line}
 use Rattle.vr_report.specs.declared.script.ScriptFault.{ScriptFault}
 use Rattle.vr_report.specs.declared.script.ScriptFault.TheVariants as faults
+use Rattle.vr_text.specs.Lines.{is_skipped, words_of}
 
 -- the most bytes of a script
 abbrev pub most_script : ℕ
 most_script = 67108864
-
--- an empty line, and one that begins with #, is passed over
-abbrev pub is_skipped : List ℕ → Bool
-is_skipped line = (length line == 0) || starts_with nat_eq line (codes "#")
 
 -- the line of this number, which asks for a call
 abbrev pub line_at : ℕ → ℕ × Call → Line
@@ -26,7 +22,8 @@ line_at number asked = record { line = number; who = asked.0; call = asked.1 }
 abbrev pub line_of : ℕ → List ℕ → Result (Option Line) ℕ
 line_of number text =
     if is_skipped text then Ok None
-    else result_map (λ asked. Some (line_at number asked)) (result_map_err (λ _. number) (asked_by (words_of text)))
+    else result_map (λ asked. Some (line_at number asked))
+    (result_map_err (λ _. number) (asked_by (words_of text)))
 
 -- the calls of the lines, of which the first has this number, or the number of the first line that stands for none
 abbrev pub script_from : ℕ → List (List ℕ) → Result (List Line) ℕ

@@ -2,13 +2,13 @@ ghost use Rattle.std.specs.Prelude.{◌≡◌, ◌++◌, ◌<◌, ◌^◌, lengt
 ghost use Rattle.vr_flow.specs.Flows.{SaysTheSame, tests_of, flows_of};
 ghost use Rattle.vr_report.specs.Flows.{identities_text, regions_text, reach_text, flow_line, HasFlowLines, IsFlowText};
 
-use crate::writer::Writer;
 use std::alloc::Global;
 use vr_base::{Bytes, NoMemory};
 use vr_flow::{Flows, Reach};
 use vr_policy_check::CheckedPolicy;
 use vr_policy_read::Identity;
 use vr_rights::Regions;
+use vr_text::Writer;
 
 /// Adds the identities of a reach.
 fn write_identities(

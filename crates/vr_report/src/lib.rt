@@ -5,7 +5,6 @@ mod flows;
 mod reading;
 mod script;
 mod texts;
-mod writer;
 
 pub use flows::flow_text;
 pub use script::{Line, MOST_SCRIPT, Script, ScriptFault, read_script};

@@ -1,14 +1,15 @@
 ghost use Rattle.std.specs.Prelude.{◌≡◌, ◌==◌, [], ◌∷◌};
-ghost use Rattle.std.specs.Char.{is_ascii_digit};
-ghost use Rattle.std.specs.List.{list_all, list_any};
+ghost use Rattle.std.specs.List.{list_any};
 ghost use Rattle.std.specs.Option.{option_copied};
 ghost use Rattle.vr_base.specs.Cuts.{parts_at, parts_left};
 ghost use Rattle.vr_base.specs.Signs.{space, carriage_return};
-ghost use Rattle.vr_report.specs.Lines.{Gives, has_leading_zero, is_numeral, id_of, name_of, empty_of, text_of, hex_of, byte_of, count_of, fill_of, content_of, call_of, asked_by, words_of};
+ghost use Rattle.vr_report.specs.Lines.{Gives, number_of, name_of, empty_of, text_of, hex_of, byte_of, count_of, fill_of, content_of, call_of, asked_by};
+ghost use Rattle.vr_text.specs.Lines.{words_of};
 
 use hex::FromHexError;
 use std::alloc::{AllocError, Global};
 use vr_base::{Bytes, Call, NoMemory, cut_at};
+use vr_text::read_id;
 
 /// The most bytes that a line fills: one more than a file may have.
 const MOST_FILL: u32 = 16_777_217;
@@ -43,36 +44,11 @@ impl From<AllocError> for LineFault {
     }
 }
 
-fn are_digits(word: &[u8]) -> bool
-    ensures { result ≡ list_all is_ascii_digit word.now }
-{
-    word.iter().all(|b| b.is_ascii_digit())
-}
-
-fn has_leading_zero(word: &[u8]) -> bool
-    ensures { result ≡ has_leading_zero word.now }
-{
-    word.len() > 1 && word.starts_with(b"0")
-}
-
-/// Whether a word is decimal digits without a leading zero.
-fn is_numeral(word: &[u8]) -> bool
-    ensures { result ≡ is_numeral word.now }
-{
-    !word.is_empty() && are_digits(word) && !has_leading_zero(word)
-}
-
 /// The number of 32 bits that a word names.
-fn read_id(word: &[u8]) -> Result<u32, LineFault>
-    ensures { Gives result (id_of word.now) }
+fn read_number(word: &[u8]) -> Result<u32, LineFault>
+    ensures { Gives result (number_of word.now) }
 {
-    if !is_numeral(word) {
-        return Err(LineFault::Form);
-    }
-    let Ok(digits) = std::str::from_utf8(word) else {
-        return Err(LineFault::Form);
-    };
-    digits.parse::<u32>().or(Err(LineFault::Form))
+    read_id(word).ok_or(LineFault::Form)
 }
 
 fn has_return(word: &[u8]) -> bool
@@ -156,7 +132,7 @@ fn read_byte(digits: &[u8]) -> Result<u8, LineFault>
 fn read_count(word: &[u8]) -> Result<u32, LineFault>
     ensures { Gives result (count_of word.now) }
 {
-    let count = read_id(word)?;
+    let count = read_number(word)?;
     if count > MOST_FILL {
         return Err(LineFault::Form);
     }
@@ -225,7 +201,7 @@ fn read_named(alloc: Global, verb: &[u8], word: &[u8]) -> Result<Call, LineFault
         let name = read_name(alloc, word)?;
         Ok(Call::Read { name })
     } else if verb == b"run".as_slice() {
-        let pipeline = read_id(word)?;
+        let pipeline = read_number(word)?;
         Ok(Call::Run { pipeline })
     } else {
         Err(LineFault::Form)
@@ -273,7 +249,7 @@ pub fn read_call(alloc: Global, line: &[u8]) -> Result<(u32, Call), LineFault>
     ensures { Gives result (asked_by (words_of line.now)) }
 {
     let (id, rest) = cut_at(line, b' ');
-    let who = read_id(id)?;
+    let who = read_number(id)?;
     match rest {
         Some(words) => Ok((who, read_words(alloc, words)?)),
         None => Err(LineFault::Form),

@@ -1,10 +1,10 @@
-ghost use Rattle.std.specs.Prelude.{◌≡◌, ◌∷◌, ◌<◌, length};
-ghost use Rattle.std.specs.Str.Lines.{lines, strip_carriage_return};
+ghost use Rattle.std.specs.Prelude.{◌≡◌};
 ghost use Rattle.vr_report.specs.Script.{Gives, line_of, most_script, script_of};
 
 use crate::reading::{LineFault, read_call};
 use std::alloc::{AllocFailed, Global};
-use vr_base::{Call, List, cut_at};
+use vr_base::{Call, List};
+use vr_text::{cut_line, is_skipped};
 
 /// The most bytes of a script.
 pub const MOST_SCRIPT: usize = 67_108_864;
@@ -41,32 +41,11 @@ impl<T: Drop> From<AllocFailed<T>> for ScriptFault {
     }
 }
 
-/// A part before an LF without the CR at its end.
-fn strip_return(part: &[u8]) -> &[u8]
-    ensures { result.now ≡ strip_carriage_return part.now }
-{
-    part.strip_suffix(b"\r").unwrap_or(part)
-}
-
-/// The first line of a text, and the text after it.
-#[tactic(auto, using(crate::proofs::Parts::lines_cut))]
-fn cut_line(text: &[u8]) -> (&[u8], &[u8])
-    requires { 0 < length text.now }
-    ensures lines { lines text.now ≡ result.0.now ∷ lines result.1.now }
-    ensures shorter { length result.1.now < length text.now }
-{
-    let (part, rest) = cut_at(text, b'\n');
-    match rest {
-        Some(rest) => (strip_return(part), rest),
-        None => (part, &text[text.len()..]),
-    }
-}
-
 /// The call of the line of this number, where the line isn't passed over.
 fn read_line(alloc: Global, number: u32, text: &[u8]) -> Result<Option<Line>, ScriptFault>
     ensures { Gives result (line_of number text.now) }
 {
-    if text.is_empty() || text.starts_with(b"#") {
+    if is_skipped(text) {
         return Ok(None);
     }
     match read_call(alloc, text) {

@@ -1,40 +1,11 @@
 ghost use Rattle.std.specs.Prelude.{◌≡◌, ◌++◌, IfOk};
-ghost use Rattle.vr_report.specs.Texts.{why_text, fault_text, reply_text, call_line, policy_line, file_line, files_text};
+ghost use Rattle.vr_report.specs.Texts.{reply_text, call_line, policy_line, file_line, files_text};
 
-use crate::writer::Writer;
 use std::alloc::Global;
-use vr_base::{Bytes, NoMemory, Path, PathFault, Reply, Why};
+use vr_base::{Bytes, NoMemory, Path, Reply};
+use vr_digests::file_digits;
 use vr_files::{FileBody, Files};
-
-/// Adds why a program is none.
-#[tactic(auto, using(std::proofs::Common::append_assoc))]
-fn write_why(text: Writer, why: &Why) -> Result<Writer, NoMemory>
-    ensures { IfOk result (λ written. written ≡ text ++ why_text why.now) }
-{
-    match why {
-        Why::Decode { kind, at } => text
-            .bytes(b" decode")?
-            .number(*kind)?
-            .bytes(b" at")?
-            .number(*at),
-        Why::Invalid { part, index } => text.bytes(b" invalid")?.number(*part)?.number(*index),
-        Why::Link { kind, index } => text.bytes(b" link")?.number(*kind)?.number(*index),
-    }
-}
-
-/// Adds the number of a name's fault, and the offset of a bad byte.
-#[tactic(auto, using(std::proofs::Common::append_assoc))]
-fn write_fault(text: Writer, fault: PathFault) -> Result<Writer, NoMemory>
-    ensures { IfOk result (λ written. written ≡ text ++ fault_text fault) }
-{
-    match fault {
-        PathFault::EmptySegment => text.bytes(b"1"),
-        PathFault::BadByte(at) => text.bytes(b"2 at")?.number(at),
-        PathFault::DotSegment => text.bytes(b"3"),
-        PathFault::TooLong => text.bytes(b"4"),
-        PathFault::OutOfMemory => text.bytes(b"5"),
-    }
-}
+use vr_text::{Writer, write_refusal};
 
 /// Adds how a pipeline ended.
 #[tactic(auto, using(std::proofs::Common::append_assoc))]
@@ -57,23 +28,7 @@ fn write_reply(text: Writer, reply: &Reply) -> Result<Writer, NoMemory>
         Reply::Read { body } => text.bytes(b"done bytes")?.sized_bytes(body),
         Reply::Ended { code, out } => write_ended(text, *code, out),
         Reply::PolicyHash { digits } => text.bytes(b"done hash")?.word(digits),
-        Reply::NoSuchFile { path } => text.about(b"no such file", path),
-        Reply::Denied { path, right } => text.about(b"denied", path)?.word(right.name().as_bytes()),
-        Reply::NoSuchPipeline { id } => text.bytes(b"no such pipeline")?.number(*id),
-        Reply::PinMissing { path } => text.about(b"pin missing", path),
-        Reply::PinMismatch { path, found } => text.about(b"pin mismatch", path)?.word(found),
-        Reply::TooLarge { size } => text.bytes(b"too large")?.number(*size),
-        Reply::BadProgram { path, why } => write_why(text.about(b"bad program", path)?, why),
-        Reply::Trapped { path, kind } => text.about(b"trapped", path)?.number(*kind),
-        Reply::OutOfFuel { path } => text.about(b"out of fuel", path),
-        Reply::BadPath { fault } => write_fault(text.bytes(b"bad path ")?, *fault),
-        Reply::Unavailable => text.bytes(b"unavailable"),
-        Reply::OutOfMemory => text.bytes(b"out of memory"),
-        Reply::Unkeyed => text.bytes(b"unkeyed"),
-        Reply::QuotaReached { name, size } => text
-            .bytes(b"quota")?
-            .word(name.as_slice())?
-            .number(*size),
+        refused => write_refusal(text, refused),
     }
 }
 
@@ -114,10 +69,8 @@ pub fn add_policy_line(text: Bytes, hash: &[u8; 64]) -> Result<Bytes, NoMemory>
 fn write_file(text: Writer, path: &Path, body: &FileBody) -> Result<Writer, NoMemory>
     ensures { IfOk result (λ written. written ≡ text ++ file_line (path.now, body.now)) }
 {
-    text.about(b"file", path)?
-        .number(body.len())?
-        .hash(body)?
-        .bytes(b"\n")
+    let sized = text.about(b"file", path)?.number(body.len())?;
+    sized.word(&file_digits(body))?.bytes(b"\n")
 }
 
 /// The text with the line of a file: its path, its size in bytes and its SHA-256. Without memory for it the text is

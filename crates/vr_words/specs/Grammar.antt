@@ -79,7 +79,8 @@ takes_two verb = false
 abbrev pub take_file : Verb → Said → Placed → Option Said
 take_file verb said file =
     if is_none said.first then Some (record said { first = Some file })
-    else (if takes_two verb && is_none said.second then Some (record said { second = Some file }) else None)
+    else (if takes_two verb && is_none said.second then Some (record said { second = Some file })
+    else None)
 
 -- a word that is no option: `make` takes one number from 1 to 1,000, and the other commands the names of files
 abbrev pub take_operand : Verb → ℕ → Said → List ℕ → Option Said
@@ -91,7 +92,8 @@ take_operand verb place said word = take_file verb said (record { place = place;
 
 -- an item at a place is taken, or isn't one that may come there
 abbrev pub take_item : Verb → ℕ → Said → Item → Option Said
-take_item verb place said (operand word) = if is_plain word then take_operand verb place said word else None
+take_item verb place said (operand word) =
+    if is_plain word then take_operand verb place said word else None
 take_item verb place said (apart choice value) = take_option verb said choice value
 take_item verb place said (joined choice value) = take_option verb said choice value
 

@@ -72,9 +72,12 @@ is_open said Store = is_none said.store
 
 -- the value of an option, where the word is one: a number within the option's bounds, or the name of a file
 abbrev pub give : Said → Choice → List ℕ → Option Said
-give said Fuel word = option_map (λ n. record said { fuel = Some n }) (number_within 0 1000000000000 word)
-give said Workers word = option_map (λ n. record said { workers = Some n }) (number_within 1 16 word)
-give said Sessions word = option_map (λ n. record said { sessions = Some n }) (number_within 1 1000000000 word)
+give said Fuel word =
+    option_map (λ n. record said { fuel = Some n }) (number_within 0 1000000000000 word)
+give said Workers word =
+    option_map (λ n. record said { workers = Some n }) (number_within 1 16 word)
+give said Sessions word =
+    option_map (λ n. record said { sessions = Some n }) (number_within 1 1000000000 word)
 give said Port word = option_map (λ n. record said { port = Some n }) (number_within 0 65535 word)
 give said Store word = if is_plain word then Some (record said { store = Some word }) else None
 
@@ -84,7 +87,8 @@ may_come verb said choice = has_option verb choice && is_open said choice
 
 -- an option with its value is taken where it may come
 abbrev pub take_option : Verb → Said → Choice → List ℕ → Option Said
-take_option verb said choice word = if may_come verb said choice then give said choice word else None
+take_option verb said choice word =
+    if may_come verb said choice then give said choice word else None
 
 -- what parts an option's name from its value in one word
 abbrev pub equals_sign : ℕ

@@ -42,7 +42,8 @@ named_in word =
 
 -- an option is named, with its value or without
 abbrev pub read_named : Verb → Said → Choice × Option (List ℕ) → Option State
-read_named verb said (choice, Some value) = option_map (within verb) (take_option verb said choice value)
+read_named verb said (choice, Some value) =
+    option_map (within verb) (take_option verb said choice value)
 read_named verb said (choice, None) =
     if may_come verb said choice then Some (awaiting verb said choice) else None
 

@@ -53,4 +53,5 @@ task_of (commands.Check policy) = check (placed policy)
 task_of (commands.Flows policy) = flows (placed policy)
 task_of (commands.Replay fuel policy script) = replay fuel (placed policy) (placed script)
 task_of (commands.Make count) = make count
-task_of (commands.Serve serving policy keys) = serve (serving_of serving) (placed policy) (placed keys)
+task_of (commands.Serve serving policy keys) =
+    serve (serving_of serving) (placed policy) (placed keys)

@@ -114,7 +114,8 @@ impl<'a> Said<'a> {
 
     /// Takes an option with its value, where it may come next.
     pub fn take_option(self, verb: Verb, choice: Choice, word: &'a str) -> Option<Said<'a>>
-        ensures { option_map said_of result ≡ take_option verb (said_of self.entry) choice word.now }
+        ensures { option_map said_of result
+            ≡ take_option verb (said_of self.entry) choice word.now }
     {
         if self.may_come(verb, choice) {
             self.give(choice, word)
@@ -125,7 +126,8 @@ impl<'a> Said<'a> {
 
     /// Takes the name of a file, where the command wants one more.
     fn take_file(self, verb: Verb, file: Word<'a>) -> Option<Said<'a>>
-        ensures { option_map said_of result ≡ take_file verb (said_of self.entry) (placed file.entry) }
+        ensures { option_map said_of result
+            ≡ take_file verb (said_of self.entry) (placed file.entry) }
     {
         if self.first.is_none() {
             Some(Said {
@@ -144,7 +146,8 @@ impl<'a> Said<'a> {
 
     /// Takes a number, where none is given yet.
     fn take_count(self, word: &str) -> Option<Said<'a>>
-        ensures { option_map said_of result ≡ take_operand Verb.Make 0 (said_of self.entry) word.now }
+        ensures { option_map said_of result
+            ≡ take_operand Verb.Make 0 (said_of self.entry) word.now }
     {
         if self.count.is_some() {
             return None;
@@ -158,7 +161,8 @@ impl<'a> Said<'a> {
 
     /// Takes a word that is no option.
     pub fn take_operand(self, verb: Verb, place: u32, word: &'a str) -> Option<Said<'a>>
-        ensures { option_map said_of result ≡ take_operand verb place (said_of self.entry) word.now }
+        ensures { option_map said_of result
+            ≡ take_operand verb place (said_of self.entry) word.now }
     {
         match verb {
             Verb::Make => self.take_count(word),

@@ -3,7 +3,7 @@ use Rattle.std.specs.Option.{option_copied}
 use Rattle.vr_base.specs.Cuts.{parts_left}
 use Rattle.vr_base.specs.Signs.{space}
 use Rattle.vr_face.specs.Keys.{keyed_by, listed_id}
-use Rattle.vr_face.specs.Lines.{is_skipped}
+use Rattle.vr_text.specs.Lines.{is_skipped}
 use Rattle.vr_face.proofs.KeyLemmas.{added_line, holds_more}
 use Rattle.vr_face.proofs.keys.add_line.Goals as goal
 

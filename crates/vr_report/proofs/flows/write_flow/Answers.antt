@@ -2,7 +2,7 @@
 use Rattle.std.proofs.Common.{◌≡◌, ℕ, List, [], ◌∷◌, codes, IfOk, subst}
 use Rattle.vr_base.specs.Signs.{line_feed}
 use Rattle.vr_report.specs.Flows.{reach_text}
-use Rattle.vr_report.specs.Texts.{number}
+use Rattle.vr_text.specs.Words.{number}
 use Rattle.vr_report.proofs.FlowLines.{four_pieces}
 use Rattle.vr_report.proofs.flows.write_flow.Goals as goal
 

@@ -4,7 +4,7 @@ use Rattle.std.specs.Prelude.{slice_index_or}
 use Rattle.std.proofs.lemmas.Option.{slice_get-get_or}
 use Rattle.vr_flow.specs.Places.{has_place}
 use Rattle.vr_report.specs.Flows.{words_from}
-use Rattle.vr_report.specs.Texts.{word}
+use Rattle.vr_text.specs.Words.{word}
 use Rattle.vr_report.proofs.FlowLines.{word_more, word_passed}
 use Rattle.vr_report.proofs.flows.write_regions.Goals as goal
 use Rattle.vr_report.proofs.flows.write_regions.Goals.{then-has_region+in_ok-text, else-has_region}

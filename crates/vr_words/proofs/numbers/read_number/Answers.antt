@@ -1,5 +1,5 @@
 use Rattle.std.proofs.Common.{rules, ◌≡◌, true, ◌∙◌, sym, arith}
-use Rattle.vr_words.specs.Numbers.{is_numeral}
+use Rattle.vr_text.specs.Numerals.{is_numeral}
 use Rattle.vr_words.proofs.NumberLemmas.{number_beyond}
 use Rattle.vr_words.proofs.numbers.read_number.Goals as goal
 
