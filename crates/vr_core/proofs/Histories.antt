@@ -8,7 +8,7 @@ use Rattle.vr_base.specs.declared.calls.Entry.{Entry}
 use Rattle.vr_files.specs.FileMaps.{FileMap}
 use Rattle.vr_core.specs.History.{IsCurrent, calls_of, entry, replies_of}
 use Rattle.vr_core.specs.Machine.{IsStep, Origin, effect}
-use Rattle.vr_core.specs.Replies.{is_made}
+use Rattle.vr_base.specs.Calls.{is_made}
 use Rattle.vr_core.proofs.StepLemmas.{replays_push}
 
 calls_of-push : (h : List Entry) (e : Entry) → calls_of (h ++ e ∷ []) ≡ calls_of h ++ (e.who, e.call) ∷ []

@@ -11,7 +11,7 @@ use Rattle.vr_policy_check.specs.Checked.{IsChecked}
 use Rattle.vr_core.specs.History.{BookState, IsBook, IsCurrent, calls_of, replies_of}
 use Rattle.vr_core.specs.Isolation.{AgreeIn, IsClosedFor, IsIsolated, IsIsolatedHistory, heard, purged}
 use Rattle.vr_core.specs.Machine.{Effect, IsStep, Origin, Replay, Replays, after_reply, effect}
-use Rattle.vr_core.specs.Replies.{is_made}
+use Rattle.vr_base.specs.Calls.{is_made}
 use Rattle.vr_core.proofs.StepIsolation.{step_isolated}
 
 -- files that a step stayed out of agree with those with which the files before it did

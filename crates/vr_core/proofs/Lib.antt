@@ -2,6 +2,8 @@ pub mod AppliedLemmas
 pub mod ChangeLemmas
 pub mod ClosedLemmas
 pub mod CrashLemmas
+pub mod Crossing
+pub mod DeskLemmas
 pub mod ExecuteLemmas
 pub mod FaultLemmas
 pub mod Histories

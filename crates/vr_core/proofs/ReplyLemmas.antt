@@ -14,7 +14,8 @@ use Rattle.vr_files.specs.FileMaps.{FileMap}
 use Rattle.vr_policy_check.specs.Rules.{CheckedData}
 use Rattle.vr_core.specs.Machine.{Checked, Effect, IsRunStep, Origin, effect, effect_of, outcome_effect}
 use Rattle.vr_core.specs.Plans.{AsksRightly, HasDifferences, plan_effect}
-use Rattle.vr_core.specs.Replies.{Gives, GivesStep, IfRefused, IsKept, IsUnkept, KeepsChanges, is_made, told}
+use Rattle.vr_base.specs.Calls.{is_made}
+use Rattle.vr_core.specs.Replies.{Gives, GivesStep, IfRefused, IsKept, IsUnkept, KeepsChanges, told}
 use Rattle.vr_core.specs.declared.book.Plan.{Plan}
 use Rattle.vr_core.specs.declared.book.Plan.TheVariants.{Keep}
 

@@ -9,7 +9,8 @@ use Rattle.std.proofs.lemmas.List.Elements.{All-head, All-tail}
 use Rattle.vr_base.specs.Checks.{◌>>=◌, ◌>>◌, fault_if, result_map_err, unless_fault}
 use Rattle.vr_base.specs.declared.calls.Call.{Call}
 use Rattle.vr_base.specs.declared.calls.Call.TheVariants as calls
-use Rattle.vr_exec.specs.Starts.{HasPinnedHash, HaveFiles, MayStart, bytes_fault, digits_of, first_pin_fault, observes_path, pin_fault}
+use Rattle.vr_digests.specs.Digests.{digits_of}
+use Rattle.vr_exec.specs.Starts.{HasPinnedHash, HaveFiles, MayStart, bytes_fault, first_pin_fault, observes_path, pin_fault}
 use Rattle.vr_exec.specs.declared.starts.NotReady.{NotReady}
 use Rattle.vr_exec.specs.declared.starts.NotReady.TheVariants.{NoSuchFile, PinMismatch}
 use Rattle.vr_files.specs.FileMaps.{FileMap}

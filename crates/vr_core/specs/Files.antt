@@ -13,7 +13,8 @@ pub record PolicyFilesData : Type 0 where
   pub files : FileTable
 
 -- What the files of a policy keep: its regions, their totals, and that no file is larger than one may be.
-pub record KeepsTotals (policy : CheckedData) (table : RegionsData) (files : FileMap) (sums : List ℕ) : Type 0 where
+pub record KeepsTotals (policy : CheckedData) (table : RegionsData) (files : FileMap)
+    (sums : List ℕ) : Type 0 where
   pub regions : IsRegionsOf policy table
   pub totals : AreTotals policy table.names files sums
   pub small : All (λ file. length file.1 ≤ 16777216) (entries files)

@@ -9,7 +9,7 @@ use Rattle.vr_files.specs.FileMaps.{FileMap}
 use Rattle.vr_policy_check.specs.Checked.{IsChecked}
 use Rattle.vr_policy_check.specs.Rules.{CheckedData}
 use Rattle.vr_core.specs.Machine.{Origin, Replays, IsStep, effect}
-use Rattle.vr_core.specs.Replies.{is_made}
+use Rattle.vr_base.specs.Calls.{is_made}
 
 -- the entry of a call
 abbrev pub entry : ℕ → ℕ → Call → Reply → Entry
@@ -41,7 +41,8 @@ pub record BookState (K : Type 0) : Type 0 where
   pub keeper : K
 
 -- the state with these parts
-abbrev pub book_state : {K : Type 0} → CheckedData → List ℕ → ℕ → FileMap → List Entry → FileMap → K → BookState K
+abbrev pub book_state : {K : Type 0} → CheckedData → List ℕ → ℕ → FileMap → List Entry → FileMap → K
+    → BookState K
 book_state policy hash fuel opening journal files keeper = record {
   origin = record { policy = policy; hash = hash; fuel = fuel; opening = opening };
   journal = journal;
@@ -51,7 +52,8 @@ book_state policy hash fuel opening journal files keeper = record {
 
 -- The policy passed the rules, the journal is legal, the files are those after it, and the keeper was loaded. Where it
 -- tells its rows, they are the files.
-pub record IsBook {K : Type 0} (rows : K → Option FileMap) (is_loaded : K → Bool) (book : BookState K) : Type 0 where
+pub record IsBook {K : Type 0} (rows : K → Option FileMap) (is_loaded : K → Bool)
+    (book : BookState K) : Type 0 where
   pub checked : IsChecked book.origin.policy
   pub history : IsCurrent book.origin book.journal book.files
   pub loaded : IsTrue (is_loaded book.keeper)
@@ -59,9 +61,11 @@ pub record IsBook {K : Type 0} (rows : K → Option FileMap) (is_loaded : K → 
 
 -- What a call does to a book, apart from its keeper: where the call was made, its reply and the files after it are the
 -- machine's, and the journal has its entry at the end; else neither changed.
-pub record Steps {K : Type 0} (old new : BookState K) (seat who : ℕ) (call : Call) (reply : Reply) : Type 0 where
+pub record Steps {K : Type 0} (old new : BookState K) (seat who : ℕ) (call : Call)
+    (reply : Reply) : Type 0 where
   pub origin : new.origin ≡ old.origin
-  pub outcome : IsTrue (is_made reply) → IsStep old.origin old.files who call (effect reply new.files)
+  pub outcome : IsTrue (is_made reply)
+      → IsStep old.origin old.files who call (effect reply new.files)
   pub made : IsTrue (is_made reply) → new.journal ≡ old.journal ++ entry seat who call reply ∷ []
   pub journal : IsFalse (is_made reply) → new.journal ≡ old.journal
   pub files : IsFalse (is_made reply) → new.files ≡ old.files
@@ -72,12 +76,14 @@ keeper_of (Ok book) = book.keeper
 keeper_of (Err refusal) = refusal.1
 
 -- A keeper tells its rows, and what a crash may leave, where it did before.
-pub record TellsAsBefore {K : Type 0} (rows_of : K → Option FileMap) (tells : K → Bool) (old new : K) : Type 0 where
+pub record TellsAsBefore {K : Type 0} (rows_of : K → Option FileMap) (tells : K → Bool)
+    (old new : K) : Type 0 where
   pub rows : is_some (rows_of new) ≡ is_some (rows_of old)
   pub crashes : tells new ≡ tells old
 
 -- A new book: without calls, over the files that the keeper loaded, which are its rows where it tells them.
-pub record Opens {K : Type 0} (under : CheckedData) (digits : List ℕ) (steps : ℕ) (rows : Option FileMap) (book : BookState K) : Type 0 where
+pub record Opens {K : Type 0} (under : CheckedData) (digits : List ℕ) (steps : ℕ)
+    (rows : Option FileMap) (book : BookState K) : Type 0 where
   pub policy : book.origin.policy ≡ under
   pub hash : book.origin.hash ≡ digits
   pub fuel : book.origin.fuel ≡ steps

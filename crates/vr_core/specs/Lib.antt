@@ -5,6 +5,7 @@ pub mod Replies
 pub mod Opening
 pub mod History
 pub mod Crashes
+pub mod PlainDesks
 pub mod Plans
 pub mod Starts
 pub mod Isolation

@@ -58,7 +58,8 @@ identity_at policy place = slice_get policy.policy.identities place
 
 -- the identity that calls
 abbrev pub identity_of : CheckedData → ℕ → Checked Identity
-identity_of policy who = or_fault Unkeyed (find (λ identity. identity.id == who) policy.policy.identities)
+identity_of policy who =
+    or_fault Unkeyed (find (λ identity. identity.id == who) policy.policy.identities)
 
 -- A pipeline that the policy lists: its place there, and what its text spells.
 pub record Listed : Type 0 where
@@ -68,17 +69,21 @@ pub record Listed : Type 0 where
 -- the pipeline at a place of the policy
 abbrev pub listed_at : CheckedData → ℕ → Option Listed
 listed_at policy place =
-    option_map (λ tree. record { place = place; pipe = pipe_tree tree }) (slice_get policy.pipes place)
+    option_map (λ tree. record { place = place; pipe = pipe_tree tree })
+    (slice_get policy.pipes place)
 
 -- the pipeline with this id
 abbrev pub pipeline_of : CheckedData → ℕ → Checked Listed
 pipeline_of policy id =
-    or_fault (NoSuchPipeline id) (option_and_then (listed_at policy) (pipeline_place policy.policy id))
+    or_fault (NoSuchPipeline id)
+    (option_and_then (listed_at policy) (pipeline_place policy.policy id))
 
 -- nothing, where the identity has each needed right on the path; the refusal names the lowest that is missing
 abbrev pub rights_check : Identity → List ℕ → ℕ → Checked (Unit {0})
 rights_check identity path needed =
-    unless_fault (option_map (λ right. Denied path right) (missing_right (word_on path identity.grants) needed)) tt
+    unless_fault
+    (option_map (λ right. Denied path right) (missing_right (word_on path identity.grants) needed))
+    tt
 
 -- nothing, where the identity may execute each of the programs; the refusal names the first that it may not
 abbrev pub execute_check : Identity → List (List ℕ) → Checked (Unit {0})
@@ -107,7 +112,8 @@ most_file = 16777216
 
 -- nothing, where a file may have this size
 abbrev pub size_check : ℕ → Checked (Unit {0})
-size_check size = unless_fault (fault_if (nat_lt most_file size) (TooLarge (min size (2 ^ 64 - 1)))) tt
+size_check size =
+    unless_fault (fault_if (nat_lt most_file size) (TooLarge (min size (2 ^ 64 - 1)))) tt
 
 -- nothing, where the quota of a path's region lets the files become others
 abbrev pub quota_check : CheckedData → FileMap → FileMap → List ℕ → Checked (Unit {0})
@@ -127,10 +133,10 @@ path_for policy who name needed = do
   rights_check identity path needed
   Ok path
 
--- the body that a read answers
+-- the body that a read answers; the right is tested before the file, so that nobody learns what he may not read
 abbrev pub body_for : Origin → FileMap → ℕ → List ℕ → Checked (List ℕ)
 body_for origin files who name = do
-  path ← path_for origin.policy who name read_rights  -- before the file, so that nobody learns what he may not read
+  path ← path_for origin.policy who name read_rights
   body_at files path
 
 -- the bytes at a path, none where there is no file
@@ -144,12 +150,13 @@ files_with origin files path body = do
   quota_check origin.policy files (insert files path body) path
   Ok (insert files path body)
 
--- the place of the pipeline that the caller asks to run, where the run may be made
+-- the place of the pipeline that the caller asks to run, where the run may be made; the rights are tested before the
+-- files, so that nobody learns what is there
 abbrev pub run_place : CheckedData → FileMap → ℕ → ℕ → Checked ℕ
 run_place policy files who id = do
   identity ← identity_of policy who
   listed ← pipeline_of policy id
-  execute_check identity (programs_of listed.pipe)  -- before the files, so that nobody learns what is there
+  execute_check identity (programs_of listed.pipe)
   start_check policy listed.pipe files
   Ok listed.place
 
@@ -206,13 +213,15 @@ ended_effect policy files code out changes = do
 
 -- what the outcome of a run comes to; one that did not end with a code changes nothing
 abbrev pub outcome_effect : CheckedData → FileMap → Outcome → Checked Effect
-outcome_effect policy files (runs.Ended code out changes) = ended_effect policy files code out changes
+outcome_effect policy files (runs.Ended code out changes) =
+    ended_effect policy files code out changes
 outcome_effect policy files (runs.BadProgram path why) = Err (BadProgram path why)
 outcome_effect policy files (runs.Trapped path kind) = Err (Trapped path kind)
 outcome_effect policy files (runs.OutOfFuel path) = Err (OutOfFuel path)
 
 -- The run of the pipeline at a place comes to this: an outcome of it does.
-pub record IsRunEffect (origin : Origin) (files : FileMap) (place : ℕ) (next : Effect) : Type 0 where
+pub record IsRunEffect (origin : Origin) (files : FileMap) (place : ℕ)
+    (next : Effect) : Type 0 where
   pub outcome : Outcome
   pub comes : PipelineComesTo origin.policy place files origin.fuel outcome
   pub next_is : next ≡ effect_of files (outcome_effect origin.policy files outcome)

@@ -24,11 +24,13 @@ is_path name = is_same name (path_of name)
 
 -- whether a row has no path in its normal form, or one of the paths before, or too many bytes
 abbrev pub is_bad : List (List ℕ) → Row → Bool
-is_bad before row = not (is_path row.0) || list_any (bytes_eq row.0) before || nat_lt most_file (length row.1)
+is_bad before row =
+    not (is_path row.0) || list_any (bytes_eq row.0) before || nat_lt most_file (length row.1)
 
 -- whether a row makes no file beside those of the rows before it
 abbrev pub is_refused : FileMap → Row → Bool
-is_refused files row = not (is_path row.0) || is_some (get files row.0) || nat_lt most_file (length row.1)
+is_refused files row =
+    not (is_path row.0) || is_some (get files row.0) || nat_lt most_file (length row.1)
 
 -- the place of the first bad row from here on; these are the paths before
 abbrev pub bad_row_after : List (List ℕ) → List Row → Option ℕ

@@ -4,7 +4,8 @@ use Rattle.vr_base.specs.declared.calls.Reply.{Reply}
 use Rattle.vr_files.specs.Changes.{AreDifferences, Change, applied}
 use Rattle.vr_files.specs.FileMaps.{FileMap}
 use Rattle.vr_core.specs.Machine.{Effect, effect}
-use Rattle.vr_core.specs.Replies.{IsKept, is_made}
+use Rattle.vr_base.specs.Calls.{is_made}
+use Rattle.vr_core.specs.Replies.{IsKept}
 use Rattle.vr_core.specs.declared.book.Plan.{Plan}
 use Rattle.vr_core.specs.declared.book.Plan.TheVariants.{Answer, Keep}
 

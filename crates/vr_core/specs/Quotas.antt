@@ -73,9 +73,11 @@ abbrev pub quotas_fault : CheckedData → FileMap → FileMap → Option Reply
 quotas_fault policy old new = first_fault policy old new (region_names policy)
 
 -- The totals are those of the regions with these names, in their order.
-pub record AreTotals (policy : CheckedData) (names : List (List ℕ)) (files : FileMap) (totals : List ℕ) : Type 0 where
+pub record AreTotals (policy : CheckedData) (names : List (List ℕ)) (files : FileMap)
+    (totals : List ℕ) : Type 0 where
   pub all : length totals ≡ length names
-  pub each : (place : ℕ) → place < length names → slice_index_or totals place 0 ≡ total_of policy files (slice_index_or names place [])
+  pub each : (place : ℕ) → place < length names
+      → slice_index_or totals place 0 ≡ total_of policy files (slice_index_or names place [])
 
 -- the totals after the file of a path in the region at a place got another size; no region has none
 abbrev pub total_changed : List ℕ → Option ℕ → ℕ → ℕ → List ℕ

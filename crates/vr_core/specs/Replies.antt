@@ -12,13 +12,6 @@ abbrev pub has_memory : Reply → Bool
 has_memory OutOfMemory = false
 has_memory _ = true
 
--- A call that is answered so counts as made, and has its entry in the history. Where memory ran out, or the keeper of the
--- files failed, a call counts as not made.
-abbrev pub is_made : Reply → Bool
-is_made Unavailable = false
-is_made OutOfMemory = false
-is_made _ = true
-
 -- What a refusal of the code tells of the checks: nothing where memory ran out. No check asks the keeper, and none refuses
 -- by the reply of what was done.
 abbrev pub told : Reply → Told Reply
@@ -41,7 +34,8 @@ IfRefused never P = ⊥
 -- What was returned is a step of the machine, where a refusal leaves these files, unless memory ran out.
 abbrev pub GivesStep : (Effect → Type 0) → FileMap → Checked Effect → Type 0
 GivesStep IsNext files (Ok next) = IsNext next
-GivesStep IsNext files (Err refusal) = IfRefused (told refusal) (λ reply. IsNext (effect reply files))
+GivesStep IsNext files (Err refusal) =
+    IfRefused (told refusal) (λ reply. IsNext (effect reply files))
 
 -- a reply of a write or an append, or of a run, where it has changes
 abbrev pub KeepsChanges : Reply → Type 0 → Type 0

@@ -1,6 +1,7 @@
 ghost use Rattle.std.specs.Prelude.{◌≡◌, ◌≢◌, ◌≤◌, ◌⊎◌, ℕ, ◌++◌, ◌∷◌, [], IfOk, IfErr, OnOk, OnErr, IsTrue, length, Ok, Err};
 ghost use Rattle.std.specs.FinMap.{insert};
 ghost use Rattle.std.specs.Result.{result_unwrap_or};
+ghost use Rattle.vr_base.specs.Calls.{is_made};
 ghost use Rattle.vr_base.specs.Causes.{HasCauseOf, Rose};
 ghost use Rattle.vr_base.specs.Checks.{result_map, result_map_err};
 ghost use Rattle.vr_core.specs.Crashes.{StepsSafely};
@@ -9,7 +10,7 @@ ghost use Rattle.vr_core.specs.Isolation.{IsIsolated, IsIsolatedHistory};
 ghost use Rattle.vr_core.specs.Machine.{IsNextFiles, IsRunStep, IsStep, append_effect, body_for, bytes_at, effect, ended_effect, files_with, hash_effect, read_effect, run_place, write_effect};
 ghost use Rattle.vr_core.specs.Opening.{ComesFromRows};
 ghost use Rattle.vr_core.specs.Plans.{AsksRightly, HasDifferences, plan_effect};
-ghost use Rattle.vr_core.specs.Replies.{Gives, GivesStep, IsKept, IsUnkept, is_made};
+ghost use Rattle.vr_core.specs.Replies.{Gives, GivesStep, IsKept, IsUnkept};
 ghost use Rattle.vr_core.specs.Starts.{StartsRightly};
 ghost use Rattle.vr_files.specs.Changes.{applied};
 ghost use Rattle.vr_files.specs.FileMaps.{FileMap};
@@ -52,10 +53,12 @@ impl<K: Keeper> Model for Book<K> {
 
     ghost coded = { Prim.hlevel (codes, coded_files, trees.the_row.coded, K.code) };
 
-    ghost view = { λ b. book_state b.files.policy b.hash b.fuel b.opening.map b.journal.items b.files.files.map b.keeper };
+    ghost view = { λ b. book_state b.files.policy b.hash b.fuel b.opening.map b.journal.items
+        b.files.files.map b.keeper };
 
     ghost invariant = { λ b. IsBook K.rows K.is_loaded
-        (book_state b.files.policy b.hash b.fuel b.opening.map b.journal.items b.files.files.map b.keeper) };
+        (book_state b.files.policy b.hash b.fuel b.opening.map b.journal.items
+        b.files.files.map b.keeper) };
 }
 
 /// What is to be done for a call that its checks let pass. What needs memory for it was made already.
@@ -225,7 +228,8 @@ impl<K: Keeper> Book<K> {
         requires outcome { IsStep self.old.origin self.old.files who call
             (effect reply (applied self.old.files changes)) }
         requires asked { IsKept self.old.files (effect reply (applied self.old.files changes)) }
-        ensures steps { Steps self.old self.new seat who call (result_unwrap_or result Reply.OutOfMemory) }
+        ensures steps { Steps self.old self.new seat who call
+            (result_unwrap_or result Reply.OutOfMemory) }
         ensures faults { K.faults self.old.keeper ≤ K.faults self.new.keeper }
         ensures cause { result ≡ Ok Reply.Unavailable
             → Rose (K.faults self.old.keeper) (K.faults self.new.keeper) }

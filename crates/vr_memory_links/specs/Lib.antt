@@ -1,4 +1,6 @@
+pub mod Folders
 pub mod Links
 pub mod Listeners
 pub mod Moving
+pub mod Sinks
 pub mod Sources
