@@ -10,15 +10,13 @@ use Rattle.vr_base.specs.declared.calls.Call.{Call}
 use Rattle.vr_base.specs.declared.calls.Entry.{Entry}
 use Rattle.vr_base.specs.declared.calls.Reply.{Reply}
 use Rattle.vr_base.specs.declared.calls.Reply.TheVariants.{Unavailable, OutOfMemory}
-use Rattle.vr_core.specs.History.{BookState, IsLegal, Steps}
 use Rattle.vr_core.specs.Machine.{Origin}
-use Rattle.vr_core.specs.Replies.{is_made as core_made}
 use Rattle.vr_turn.specs.Accounts.{AddsAtMostOne, Works}
 use Rattle.vr_turn.specs.Rule.{SeesOwn}
-use Rattle.vr_turn.specs.Seats.{numbers}
+use Rattle.vr_turn.specs.Seats.{numbers, turned}
 use Rattle.vr_turn.specs.Turns.{TakesTurn}
 use Rattle.vr_turn.specs.declared.views.Knowledge.{Knowledge}
-use Rattle.vr_session.specs.SharedBooks.{account_of, TakesCall}
+use Rattle.vr_session.specs.SharedBooks.{account_of, Asks, TakesCall}
 use Rattle.vr_session.specs.declared.shared_book.SharedBook.{SharedBook}
 
 -- its own entry is at most one, with the seat's number
@@ -50,15 +48,23 @@ sees_call knows who call reply found left sees same = record {
   history = same ∙ (ap (λ (l : List Entry). l ++ own_entries knows.number who call reply) sees.history ∙ append_assoc knows.seen sees.others (own_entries knows.number who call reply));
 }
 
--- the same of a turn that was taken
-pub sees_by : {K : Type 0} (faults : K → ℕ) (first : SharedBook K) (n who : ℕ) (call : Call) (old new : SharedBook K) (reply : Reply) (entries : ℕ) (does : SharedBook K → SharedBook K → Type 0)
+-- what a turn that was taken comes to for its seat
+pub asks_by : {K : Type 0} (faults : K → ℕ) (first : SharedBook K) (n who : ℕ) (call : Call) (old new : SharedBook K) (reply : Reply) (entries : ℕ) (does : SharedBook K → SharedBook K → Type 0)
     (before after : Knowledge) (t : TakesTurn (λ (s : SharedBook K). account_of faults s.book) first does before after) → n ≡ before.number → old ≡ t.found → new ≡ t.left
-    → TakesCall faults n who call old.book new.book reply entries → Sees before.number who call reply before.seen after.seen
-sees_by {K} faults first n who call old new reply entries does before after t number same_old same_new takes =
+    → TakesCall faults n who call old.book new.book reply entries → Asks before who call reply after
+asks_by {K} faults first n who call old new reply entries does before after t number same_old same_new takes =
     let journal : t.left.book.journal ≡ t.found.book.journal ++ own_entries before.number who call reply =
     subst (λ (p : ℕ × SharedBook K × SharedBook K). p.2.book.journal ≡ p.1.book.journal ++ own_entries p.0 who call reply) (λ i. (number i, same_old i, same_new i)) takes.journal in
-    subst (λ (seen : List Entry). Sees before.number who call reply before.seen seen) (sym (ap (λ (k : Knowledge). k.seen) t.knows))
-    (sees_call before who call reply t.found.book.journal t.left.book.journal t.finds.history journal)
+    record {
+      found = t.found.book.journal;
+      own = t.finds.history;
+      seen = ap (λ (k : Knowledge). k.seen) t.knows ∙ journal;
+      same = subst (λ (k : Knowledge). k ≡ turned before k.seen k.faults k.found) (sym t.knows) refl;
+    }
+
+-- and to the history that it has seen
+pub sees_asked : (before : Knowledge) (who : ℕ) (call : Call) (reply : Reply) (after : Knowledge) → Asks before who call reply after → Sees before.number who call reply before.seen after.seen
+sees_asked before who call reply after asks = sees_call before who call reply asks.found after.seen asks.own asks.seen
 
 rose_above : (before after : ℕ) → Rose before after → after < 2 ^ 64 - 1 → before < after
 rose_above before after rose short = omega (arith, rose, short)
@@ -76,28 +82,12 @@ licensed_by {K} faults first n who call old new reply entries does before after 
     let high = rose_above (faults t.found.book.keeper) (faults t.left.book.keeper) rose (omega (arith, left, short)) in
     (omega (arith, low, found), omega (arith, high, found, left))
 
--- a call counts as made for the book where it does for a desk
-made_alike : (reply : Reply) → core_made reply ≡ is_made reply
-made_alike Unavailable = refl
-made_alike OutOfMemory = refl
-made_alike _ = refl
-
-own_by : (made : Bool) (e : Entry) (old new : List Entry) → (made ≡ true → new ≡ old ++ e ∷ []) → (made ≡ false → new ≡ old) → new ≡ old ++ cond made (e ∷ []) []
-own_by true e old new grew same = grew refl
-own_by false e old new grew same = same refl ∙ sym (append-nil old)
-
--- what a book's step adds to its journal
-pub steps_own : {K : Type 0} (old new : BookState K) (seat who : ℕ) (call : Call) (reply : Reply) → Steps old new seat who call reply → new.journal ≡ old.journal ++ own_entries seat who call reply
-steps_own old new seat who call reply steps =
-    own_by (is_made reply) record { seat = seat; who = who; call = call; reply = reply } old.journal new.journal
-    (λ made. steps.made (made_alike reply ∙ made)) (λ unmade. steps.journal (made_alike reply ∙ unmade))
-
--- what a seat has seen after its turn is legal
-pub legal_by : {K : Type 0} (faults : K → ℕ) (first : SharedBook K) (n who : ℕ) (call : Call) (old new : SharedBook K) (reply : Reply) (entries : ℕ) (does : SharedBook K → SharedBook K → Type 0)
+-- what holds of the journal that a turn left holds of what its seat has seen
+pub left_by : {K : Type 0} (faults : K → ℕ) (P : Origin → List Entry → Type 0) (first new : SharedBook K) (does : SharedBook K → SharedBook K → Type 0)
     (before after : Knowledge) (t : TakesTurn (λ (s : SharedBook K). account_of faults s.book) first does before after) → new ≡ t.left
-    → TakesCall faults n who call old.book new.book reply entries → IsLegal first.book.origin after.seen
-legal_by {K} faults first n who call old new reply entries does before after t same_new takes =
-    let legal : IsLegal t.left.book.origin t.left.book.journal = subst (λ (s : SharedBook K). IsLegal s.book.origin s.book.journal) same_new takes.legal in
+    → P new.book.origin new.book.journal → P first.book.origin after.seen
+left_by {K} faults P first new does before after t same_new holds =
+    let left : P t.left.book.origin t.left.book.journal = subst (λ (s : SharedBook K). P s.book.origin s.book.journal) same_new holds in
     let origin : t.left.book.origin ≡ first.book.origin = t.works.origin ∙ t.finds.origin in
     let seen : t.left.book.journal ≡ after.seen = sym (ap (λ (k : Knowledge). k.seen) t.knows) in
-    subst (λ (p : Origin × List Entry). IsLegal p.0 p.1) (λ i. (origin i, seen i)) legal
+    subst (λ (p : Origin × List Entry). P p.0 p.1) (λ i. (origin i, seen i)) left

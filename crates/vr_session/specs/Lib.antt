@@ -1,1 +1,2 @@
 pub mod SharedBooks
+pub mod Workers

@@ -39,6 +39,7 @@ impl<'a, R: Wait, K: Keeper, G: Gate> SharedDesk<'a, R, K, G> {
     /// Gives the seat back, with what it has seen.
     pub fn into_seat(self) -> TurnSeat<SharedBook<K>>
         ensures seat { result ≡ self.entry.seat }
+        ensures same { result.turn ≡ self.entry.shared.now.turn.id }
         ensures legal { ∥ IsLegal self.entry.shared.now.turn.first.book.origin
             result.knows.seen ∥₁ }
     {
@@ -52,6 +53,11 @@ impl<'a, R: Wait, K: Keeper, G: Gate> SharedDesk<'a, R, K, G> {
 }
 
 impl<'a, R: Wait, K: Keeper, G: Gate> Desk for SharedDesk<'a, R, K, G> {
+    ghost use Rattle.std.specs.Prelude.{◌≤◌, length};
+    ghost use Rattle.vr_base.specs.Desks.{IsLicensed, Sees};
+    ghost use Rattle.vr_core.specs.Isolation.{IsIsolatedHistory};
+    ghost use Rattle.vr_session.specs.SharedBooks.{Asks};
+
     ghost Origin = { Origin };
 
     ghost origin = { λ desk. desk.shared.now.turn.first.book.origin };
@@ -64,7 +70,26 @@ impl<'a, R: Wait, K: Keeper, G: Gate> Desk for SharedDesk<'a, R, K, G> {
 
     ghost found = { λ desk. desk.seat.knows.found };
 
-    fn ask(&mut self, who: u32, call: Call) -> (Reply, Front) {
+    /// As the trait says. What the seat has seen then is legal and isolated from the book's origin
+    /// on, and before the call's own entry the seat's numbers have no entry that it hadn't seen.
+    fn ask(&mut self, who: u32, call: Call) -> (Reply, Front)
+        ensures shared { self.new.shared.now ≡ self.old.shared.now }
+        ensures seat { self.new.seat.knows.number ≡ self.old.seat.knows.number }
+        ensures origin { self.new.shared.now.turn.first.book.origin
+            ≡ self.old.shared.now.turn.first.book.origin }
+        ensures seen { Sees self.old.seat.knows.number who call result.0
+            self.old.seat.knows.seen self.new.seat.knows.seen }
+        ensures front { result.1.entries ≡ length self.new.seat.knows.seen }
+        ensures asks { Asks self.old.seat.knows who call result.0 self.new.seat.knows }
+        ensures legal { IsLegal self.old.shared.now.turn.first.book.origin
+            self.new.seat.knows.seen }
+        ensures isolated { IsIsolatedHistory self.old.shared.now.turn.first.book.origin
+            self.new.seat.knows.seen }
+        ensures later { self.old.seat.knows.faults ≤ self.new.seat.knows.faults }
+        ensures licensed { result.0 ≡ Reply.Unavailable
+            → IsLicensed self.old.seat.knows.faults self.new.seat.knows.found
+            self.new.seat.knows.faults }
+    {
         self.shared.gate.pause(Point::BeforeAsk);
         let number = self.seat.number();
         let (reply, entries) = self.shared.turn.with_turn(

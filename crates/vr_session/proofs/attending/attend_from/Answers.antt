@@ -1,0 +1,33 @@
+use Rattle.std.proofs.Common.{rules, ◌∙◌, ap, arith}
+use Rattle.vr_core.specs.History.{BookState, IsBook}
+use Rattle.vr_core.proofs.HistoryLemmas.{book_isolated}
+use Rattle.vr_face.proofs.PorchLemmas.{keeps_none}
+use Rattle.vr_session.proofs.Seating.{first_seat, has_all}
+use Rattle.vr_session.proofs.Settling.{alone_none}
+use Rattle.vr_session.proofs.attending.attend_from.Goals as goal
+
+pub returns-in-Err-clause-served : goal.returns-in-Err-clause-served
+returns-in-Err-clause-served g c = keeps_none _ _ _ c.requires.ended
+
+pub returns-in-Err-clause-one : goal.returns-in-Err-clause-one
+returns-in-Err-clause-one g c one =
+    let same = c.in-Err.ensures.err.0 in
+    let faults = ap (λ (b : BookState g.row.K.Denot). g.K.Keeper.faults b.keeper) same in
+    rw (c.requires.ended, c.requires.handed_out)
+    (alone_none c.args.keys.now g.O.Opening.ended g.O.Opening.handed_out (g.K.Keeper.faults c.args.book.keeper) (g.K.Keeper.faults c.in-Err.book.keeper) c.in-Err.book.journal _
+    (ap (λ (b : BookState g.row.K.Denot). b.journal) same ∙ c.requires.empty) (omega (arith, faults)))
+
+pub serve_alone-last-requires-clause-seat : goal.serve_alone-last-requires-clause-seat
+serve_alone-last-requires-clause-seat g c =
+    let made = c.in-Ok.ensures.ok in
+    first_seat _ c.in-Ok.made.1 _ _ made.2 made.4
+
+pub close-requires-clause-all : goal.close-requires-clause-all
+close-requires-clause-all g c =
+    let made = c.in-Ok.ensures.ok in
+    rw made.0 (has_all _ _ _ _ made.4 c.serve_alone-last.ensures.regains)
+
+pub returns-clause-isolated : goal.returns-clause-isolated
+returns-clause-isolated g c =
+    let is : IsBook g.K.Keeper.rows g.K.Keeper.is_loaded c.close.result = search rules in
+    book_isolated g.K.Keeper.rows g.K.Keeper.is_loaded c.close.result is

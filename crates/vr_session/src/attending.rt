@@ -1,0 +1,186 @@
+//! A book that a listener's connections are served from, by workers, and what comes back of both.
+ghost use Rattle.std.specs.Prelude.{◌≡◌, ◌≤◌, ◌+◌, ◌<◌, true, [], length, Ok, Err, IfSome, OnOk};
+ghost use Rattle.vr_base.specs.Causes.{HasCauseOf, Rose};
+ghost use Rattle.vr_core.specs.History.{IsBook};
+ghost use Rattle.vr_core.specs.Isolation.{IsIsolatedHistory};
+ghost use Rattle.vr_face.specs.Doors.{says_want};
+ghost use Rattle.vr_face.specs.Porches.{KeepsServed};
+ghost use Rattle.vr_session.specs.Workers.{AttendsAlone, IsSeatOf, Regains, joint_answer};
+
+use crate::shared::Shared;
+use crate::shared_book::SharedBook;
+use crate::workers::serve_at;
+use std::alloc::Global;
+use std::marker::Brand;
+use std::sync::Wait;
+use std::thread::Threads;
+use vr_base::{Gate, Listener, NoMemory};
+use vr_core::Book;
+use vr_face::{AttendFault, Keys, Opening, Porch};
+use vr_keeper::Keeper;
+use vr_turn::TurnSeat;
+
+/// The answer for all sessions of a porch, of which the last ones came to this answer.
+fn joint_answer(
+    wanted: bool,
+    failed: bool,
+    last: Result<(), AttendFault>,
+) -> Result<(), AttendFault>
+    ensures { result ≡ joint_answer wanted failed last }
+{
+    if wanted {
+        return Err(AttendFault::OutOfMemory);
+    }
+    last?;
+    if failed {
+        return Err(AttendFault::Failed);
+    }
+    Ok(())
+}
+
+/// Ends a porch whose last sessions came to this answer: the answer for all, and the listener.
+fn settle<L: Listener + Drop, O: Opening>(
+    porch: Porch<L, O>,
+    last: Result<(), AttendFault>,
+) -> (Result<(), AttendFault>, L)
+    requires over { OnOk last (porch.left ≡ 0) }
+    requires risen { last ≡ Err AttendFault.Failed → Rose O.faults (L.faults porch.listener) }
+    ensures listener { result.1 ≡ porch.listener }
+    ensures memory { last ≡ Err AttendFault.OutOfMemory
+        → result.0 ≡ Err AttendFault.OutOfMemory }
+    ensures count { OnOk result.0 (L.handed_out result.1 ≡ O.handed_out + O.left) }
+    ensures listens { L.listens result.1 ≡ O.listens }
+    ensures served { KeepsServed O.ended (L.ended result.1) (says_want result.0) }
+    ensures cause { HasCauseOf AttendFault.Failed O.faults (L.faults result.1) result.0 }
+{
+    let answer = joint_answer(porch.wanted(), porch.failed(), last);
+    (answer, porch.into_listener())
+}
+
+/// Serves all that the porch may hand out, by one worker, in this thread. The seat splits the
+/// worker's off and takes it in again.
+fn serve_alone<R: Wait, L: Listener + Drop, O: Opening, K: Keeper, G: Gate + Drop>(
+    rt: &R,
+    alloc: Global,
+    shared: &Shared<K, G>,
+    keys: &Keys,
+    porch: Porch<L, O>,
+    seat: TurnSeat<SharedBook<K>>,
+) -> (
+    Result<(), AttendFault>,
+    Porch<L, O>,
+    TurnSeat<SharedBook<K>>,
+)
+    requires seat { IsSeatOf shared.now.turn seat }
+    requires room { seat.knows.next < seat.knows.end }
+    requires first { (seat.knows.next ≡ 1) × (seat.knows.seen ≡ []) }
+    ensures seat { IsSeatOf shared.now.turn result.2 }
+    ensures regains { Regains seat.knows result.2.knows }
+    ensures over { OnOk result.0 (result.1.left ≡ 0) }
+    ensures risen { result.0 ≡ Err AttendFault.Failed
+        → Rose O.faults (L.faults result.1.listener) }
+    ensures alone { IfSome (L.ended result.1.listener) (λ list. AttendsAlone keys.now
+        (L.ended porch.listener) list (L.handed_out porch.listener)
+        (L.handed_out result.1.listener) seat.knows.faults result.2.knows.faults
+        result.2.knows.seen result.0) }
+{
+    let mut porch = porch;
+    let mut seat = seat;
+    let own = match shared.split(&mut seat) {
+        Ok(own) => own,
+        Err(NoMemory) => return (Err(AttendFault::OutOfMemory), porch, seat),
+    };
+    let (answer, own) = serve_at(rt, alloc, shared, keys, &mut porch, own);
+    shared.join(&mut seat, own);
+    (answer, porch, seat)
+}
+
+/// As `attend_all`, with what the listener told at the opening.
+fn attend_from<
+    R: Threads + Wait + Sync,
+    L: Listener + Send + Drop,
+    O: Opening + Send,
+    K: Keeper,
+    G: Gate + Sync + Drop,
+>(
+    rt: &R,
+    alloc: Global,
+    book: Book<K>,
+    gate: G,
+    keys: &Keys,
+    listener: L,
+    workers: u32,
+    sessions: u32,
+) -> (Result<(), AttendFault>, L, Book<K>)
+where
+    L::Conn: Send,
+    requires empty { book.journal ≡ [] }
+    requires workers { (1 ≤ workers) × (workers ≤ 16) }
+    requires left { sessions ≡ O.left }
+    requires handed_out { L.handed_out listener ≡ O.handed_out }
+    requires faults { L.faults listener ≡ O.faults }
+    requires listens { L.listens listener ≡ O.listens }
+    requires ended { L.ended listener ≡ O.ended }
+    ensures book { IsBook K.rows K.is_loaded result.2 }
+    ensures origin { result.2.origin ≡ book.origin }
+    ensures isolated { IsIsolatedHistory result.2.origin result.2.journal }
+    ensures keeper { K.faults book.keeper ≤ K.faults result.2.keeper }
+    ensures listens { L.listens result.1 ≡ O.listens }
+    ensures count { OnOk result.0 (L.handed_out result.1 ≡ O.handed_out + O.left) }
+    ensures served { KeepsServed O.ended (L.ended result.1) (says_want result.0) }
+    ensures one { workers ≡ 1 → IfSome (L.ended result.1) (λ list. AttendsAlone keys.now
+        O.ended list O.handed_out (L.handed_out result.1)
+        (K.faults book.keeper) (K.faults result.2.keeper) result.2.journal result.0) }
+    ensures cause { HasCauseOf AttendFault.Failed O.faults (L.faults result.1) result.0 }
+{
+    let (shared, seat) = match Shared::new(alloc, book, gate, workers + 1) {
+        Ok(made) => made,
+        Err((NoMemory, book, _gate)) => {
+            return (Err(AttendFault::OutOfMemory), listener, book);
+        }
+    };
+    let porch = Porch::<L, O>::new(listener, sessions);
+    let (last, porch, seat) = serve_alone(rt, alloc, &shared, keys, porch, seat);
+    let (answer, listener) = settle(porch, last);
+    (answer, listener, shared.close(seat))
+}
+
+/// Serves connections of the listener from a book without calls, and gives both back once no
+/// session runs any more. One worker at a seat of its own serves in this thread, one connection
+/// after the other; the turn has seats for as many workers as are asked for, and the others aren't
+/// made yet. After an accept that failed no more are served. If memory runs out before the first
+/// session, none is served. It may wait, for connections and for the book.
+pub fn attend_all<
+    R: Threads + Wait + Sync,
+    L: Listener + Send + Drop,
+    K: Keeper,
+    G: Gate + Sync + Drop,
+>(
+    rt: &R,
+    alloc: Global,
+    book: Book<K>,
+    gate: G,
+    keys: &Keys,
+    listener: L,
+    workers: u32,
+    sessions: u32,
+) -> (Result<(), AttendFault>, L, Book<K>)
+where
+    L::Conn: Send,
+    requires empty { book.journal ≡ [] }
+    requires workers { (1 ≤ workers) × (workers ≤ 16) }
+    ensures book { IsBook K.rows K.is_loaded result.2 }
+    ensures origin { result.2.origin ≡ book.origin }
+    ensures isolated { IsIsolatedHistory result.2.origin result.2.journal }
+    ensures keeper { K.faults book.keeper ≤ K.faults result.2.keeper }
+    ensures listens { L.listens result.1 ≡ L.listens listener }
+    ensures count { OnOk result.0 (L.handed_out result.1 ≡ L.handed_out listener + sessions) }
+    ensures served { KeepsServed (L.ended listener) (L.ended result.1) (says_want result.0) }
+    ensures one { workers ≡ 1 → IfSome (L.ended result.1) (λ list. AttendsAlone keys.now
+        (L.ended listener) list (L.handed_out listener) (L.handed_out result.1)
+        (K.faults book.keeper) (K.faults result.2.keeper) result.2.journal result.0) }
+    ensures cause { HasCauseOf AttendFault.Failed (L.faults listener) (L.faults result.1)
+        result.0 }
+{
+    attend_from::<R, L, Brand, K, G>(rt, alloc, book, gate, keys, listener, workers, sessions)
+}
