@@ -1,12 +1,16 @@
 """The built program over files in a folder of its own, and what it comes to beside what it should come to."""
-import os, subprocess, sys, tempfile
+import os, pathlib, subprocess, sys, tempfile
+
+USAGE = pathlib.Path(__file__).resolve().parent / "usage.txt"
 
 
 class Rows:
-    """Rows of a table, each a run of the program in a folder that has these files."""
+    """Rows of a table, each a run of the program in a folder that has these files. After the text of status 1 comes the
+    usage text."""
 
     def __init__(self, title, program, files):
         self.title, self.program = title, os.path.abspath(program)
+        self.usage = USAGE.read_text(encoding="utf-8")
         self.rows = self.wrong = 0
         self.kept = tempfile.TemporaryDirectory()
         self.folder = self.kept.name
@@ -24,7 +28,8 @@ class Rows:
 
     def compare(self, name, done, status, error, out):
         self.rows += 1
-        wanted = (status, (error + "\n" if error else "").encode(), out)
+        error = error + "\n" if error else ""
+        wanted = (status, (error + self.usage if status == 1 else error).encode(), out)
         found = (done.returncode, done.stderr, done.stdout or b"")
         if found != wanted:
             self.wrong += 1

@@ -119,7 +119,15 @@ ROWS = [
     (["replay", "--fuel", "5", "absent", "script"], 4, "absent: absent", b""),
     (["replay", "policy", "--fuel", "5", "gone"], 4, "absent: gone", b""),
     (["hash", "--fuel", "5", "policy"], 1, "usage: word 1", b""),
-    (["make", "1"], 1, "usage: word 0", b""),
+    (["make"], 1, "usage: word 1", b""),
+    (["make", "0"], 1, "usage: word 1", b""),
+    (["make", "1001"], 1, "usage: word 1", b""),
+    (["make", "01"], 1, "usage: word 1", b""),
+    (["make", "-1"], 1, "usage: word 1", b""),
+    (["make", "=1"], 1, "usage: word 1", b""),
+    (["make", ""], 1, "usage: word 1", b""),
+    (["make", "1", "1"], 1, "usage: word 2", b""),
+    (["make", "--fuel", "1", "1"], 1, "usage: word 1", b""),
     (["serve", "policy", "script"], 1, "usage: word 0", b""),
     (["replay", "policy", "script", ""], 1, "usage: word 3", b""),
     (["hash"], 1, "usage: word 1", b""),
@@ -185,6 +193,9 @@ table.compare("standard output closed", done, 6, "write fault", b"")
 with open("/dev/full", "wb") as full:
     done = table.run([table.program, "flows", "policy"], stdout=full)
 table.compare("standard output full, for flows", done, 6, "write fault", b"")
+with open("/dev/full", "wb") as full:
+    done = table.run([table.program, "make", "1"], stdout=full)
+table.compare("standard output full, for a summary", done, 6, "write fault", b"")
 # A file that may not be read; the superuser reads it all the same.
 if os.geteuid() != 0:
     os.chmod(os.path.join(table.folder, "script"), 0)

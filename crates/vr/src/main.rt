@@ -1,5 +1,7 @@
-//! The program `vr`: it replays scripts of calls under a policy, and tells a policy's hash.
+//! The program `vr`: it does what its first word names, a command over files or the server.
 #![tactic(auto)]
+
+mod usage;
 
 ghost use Rattle.std.specs.Prelude.{◌≡◌, ◌⊎◌, Err};
 ghost use Rattle.vr_cli.specs.declared.status.Status.{Status};
@@ -8,11 +10,17 @@ use std::alloc::AllocError;
 use std::env;
 use std::io::ErrorKind;
 use std::process::ExitCode;
-use vr_cli::{DiskFolder, Status, StdSink, command};
+use std::sync::Wait;
+use std::thread::Threads;
+use usage::usage_text;
+use vr_base::NoGate;
+use vr_cli::{DiskFolder, Status, StdSink, TcpDoor, command, serve};
+use vr_keeper_sql::SqlKeeper;
 
 /// The words after the program's name. A command line that isn't text is no command's.
 fn words(rt: &HostRuntime) -> Result<Vec<String>, Status>
-    ensures { (status : Status) → result ≡ Err status → (status ≡ Status.Usage 0) ⊎ (status ≡ Status.WantOfMemory) }
+    ensures { (status : Status) → result ≡ Err status →
+        (status ≡ Status.Usage 0) ⊎ (status ≡ Status.WantOfMemory) }
 {
     let mut words = Vec::new(rt.alloc());
     match env::args(rt) {
@@ -31,25 +39,53 @@ fn words(rt: &HostRuntime) -> Result<Vec<String>, Status>
     }
 }
 
-/// Prints the status on standard error, where it says something.
+/// Prints the status on standard error, where it says something; and how the program is used, where the words ask for
+/// nothing.
 fn report(rt: &HostRuntime, status: Status, words: &[String]) -> Result<(), AllocError> {
     let text = status.text(rt.alloc(), words)?;
     if !text.is_empty() {
         let _ = eprintln!(rt; "{text}");
     }
+    if let Status::Usage { .. } = status {
+        let usage = usage_text(rt.alloc())?;
+        let _ = eprint!(rt; "{usage}");
+    }
     Ok(())
+}
+
+/// Whether the words ask for a server.
+fn asks_to_serve(words: &[String]) -> bool {
+    match words.first() {
+        Some(first) => first.as_str() == "serve",
+        None => false,
+    }
+}
+
+/// Does what the words ask for: the server where the first one is `serve`, and else a command.
+fn run<R: Threads + Wait + Sync>(threads: &R, rt: HostRuntime, words: &[String]) -> Status {
+    let alloc = rt.alloc();
+    let (mut folder, mut out) = (DiskFolder::new(rt), StdSink::new(rt));
+    if asks_to_serve(words) {
+        let (door, keeper) = (TcpDoor::new(rt), SqlKeeper::new(rt));
+        let (status, _, _) = serve(
+            threads,
+            alloc,
+            words,
+            &mut folder,
+            door,
+            keeper,
+            NoGate,
+            &mut out,
+        );
+        status
+    } else {
+        command(alloc, words, &mut folder, &mut out)
+    }
 }
 
 fn main(rt: HostRuntime) -> ExitCode {
     let (status, words) = match words(&rt) {
-        Ok(words) => {
-            let mut folder = DiskFolder::new(rt);
-            let mut out = StdSink::new(rt);
-            (
-                command(rt.alloc(), words.as_slice(), &mut folder, &mut out),
-                words,
-            )
-        }
+        Ok(words) => (run(&rt, rt, words.as_slice()), words),
         Err(status) => (status, Vec::new(rt.alloc())),
     };
     let _ = report(&rt, status, words.as_slice());

@@ -1,14 +1,15 @@
 -- What the words of a command line ask for, and the status that says so.
-use Rattle.std.proofs.Common.{◌≡◌, ◌↔◌, ℕ, List, Option, None, Some, Result, Ok, Err, true, refl, ap, ◌∙◌, subst, option_map}
+use Rattle.std.proofs.Common.{◌≡◌, ◌≤◌, ◌↔◌, ℕ, List, Option, None, Some, Result, Ok, Err, true, refl, ap, ◌∙◌, subst, option_map}
 use Rattle.std.specs.Prelude.{IfOk, IfSome}
-use Rattle.vr_words.specs.Grammar.{Task, hash, check, flows, AskFor, IsWrongAt, contains, over_both, task_said}
-use Rattle.vr_words.specs.Options.{Placed, Said}
+use Rattle.vr_words.specs.Grammar.{Task, hash, check, flows, make, AskFor, IsWrongAt, contains, over_both, task_said}
+use Rattle.vr_words.specs.Options.{Placed, Said, nothing_said}
 use Rattle.vr_words.specs.declared.commands.Verb.{Verb}
 use Rattle.vr_words.specs.declared.commands.Verb.TheVariants as verbs
 use Rattle.vr_words.proofs.Results.{mapped}
 use Rattle.vr_cli.specs.Commands.{commands, IsOurs}
 use Rattle.vr_cli.specs.Endings.{Ends, SaysOver}
 use Rattle.vr_cli.specs.Outputs.{NamedFiles, output_of}
+use Rattle.vr_cli.proofs.CountLemmas.{HasSmallCount, small_count}
 use Rattle.vr_cli.proofs.EndingLemmas.{ends_over}
 use Rattle.vr_cli.specs.declared.status.Status.{Status}
 use Rattle.vr_cli.specs.declared.status.Status.TheVariants.{Usage}
@@ -24,17 +25,22 @@ over_two make_task (Some first) (Some second) task ours h = let same : make_task
 over_two make_task None second task ours h = cc
 over_two make_task first None task ours h = cc
 
-said_ours : (verb : Verb) (said : Said) (task : Task) → contains commands verb ≡ true → task_said verb said ≡ Some task → IsOurs task
-said_ours verbs.Hash said task known asks = over_one hash said.first task (λ word. tt) asks
-said_ours verbs.Check said task known asks = over_one check said.first task (λ word. tt) asks
-said_ours verbs.Flows said task known asks = over_one flows said.first task (λ word. tt) asks
-said_ours verbs.Replay said task known asks = over_two _ said.first said.second task (λ policy script. tt) asks
-said_ours verbs.Make said task known asks = cc
-said_ours verbs.Serve said task known asks = cc
+said_ours : (verb : Verb) (said : Said) (task : Task) → HasSmallCount said → contains commands verb ≡ true → task_said verb said ≡ Some task → IsOurs task
+said_ours verbs.Hash said task small known asks = over_one hash said.first task (λ word. tt) asks
+said_ours verbs.Check said task small known asks = over_one check said.first task (λ word. tt) asks
+said_ours verbs.Flows said task small known asks = over_one flows said.first task (λ word. tt) asks
+said_ours verbs.Replay said task small known asks = over_two _ said.first said.second task (λ policy script. tt) asks
+said_ours verbs.Make said task small known asks =
+    let from = mapped make said.count task asks in
+    let within : from.0 ≤ 1000 = rw from.1 at small in
+    subst IsOurs from.2 within
+said_ours verbs.Serve said task small known asks = cc (known)
 
 -- words that are accepted ask for one of the commands
 pub asks_ours : (task : Task) (words : List (List ℕ)) → AskFor commands task words → IsOurs task
-asks_ours task words asks = said_ours asks.verb asks.said task asks.known asks.asks
+asks_ours task words asks =
+    let small = small_count asks.verb 1 nothing_said asks.items asks.said asks.taken tt in
+    said_ours asks.verb asks.said task small asks.known asks.asks
 
 -- what was answered is what the words ask for, and so one of the commands
 pub answers_ours : (answer : Result Task ℕ) (words : List (List ℕ)) → ((task : Task) → (answer ≡ Ok task) ↔ AskFor commands task words) → IfOk answer IsOurs

@@ -1,12 +1,13 @@
 -- How a command ends, from what its parts returned.
-use Rattle.std.proofs.Common.{◌≡◌, ℕ, List, Option, None, Some, Ok, Err, ◌⊎◌, inl, inr, refl, subst, ◌≤◌, arith}
+use Rattle.std.proofs.Common.{◌≡◌, ℕ, List, Option, None, Some, Ok, Err, ◌⊎◌, inl, inr, refl, subst, ◌≤◌, arith, lit≤}
 use Rattle.std.specs.Prelude.{IfSome}
 use Rattle.std.specs.Io.KnownBytes.{Keeps}
 use Rattle.vr_base.proofs.Written.{AppendsPrefix-none}
 use Rattle.vr_base.specs.Checks.{◌>>=◌}
 use Rattle.vr_base.specs.Outside.{FolderCounts}
 use Rattle.vr_cli.specs.Endings.{Gives, GivesOver, HasCount, HasReadCause, SaysOf, SaysOver, IsAtMostBegun, IsBeforeText, IsOutside, IsCaused, Ends, HasCauses}
-use Rattle.vr_cli.specs.Outputs.{Tested, NamedFiles, in_file, origin_under, policy_from, script_in, Output, text, flows_under, replay_of, output_of}
+use Rattle.vr_cli.specs.Statuses.{exit_code}
+use Rattle.vr_cli.specs.Outputs.{Tested, NamedFiles, in_file, origin_under, policy_from, script_in, Output, text, flows_under, replay_of, summary_under, output_of}
 use Rattle.vr_policy_check.specs.Rules.{CheckedData}
 use Rattle.vr_policy_read.specs.Limits.{most_policy}
 use Rattle.vr_report.specs.Script.{most_script}
@@ -14,7 +15,7 @@ use Rattle.vr_report.specs.declared.script.Line.{Line}
 use Rattle.vr_words.specs.Grammar.{replay}
 use Rattle.vr_words.specs.Options.{Placed}
 use Rattle.vr_cli.specs.declared.status.Status.{Status}
-use Rattle.vr_cli.specs.declared.status.Status.TheVariants.{Usage, PolicyRefused, ScriptRefused, Absent, ReadFault, WriteFault, WantOfMemory}
+use Rattle.vr_cli.specs.declared.status.Status.TheVariants.{Usage, PolicyRefused, ScriptRefused, Absent, ReadFault, WriteFault, WantOfMemory, ListenFault, KeeperFault, KeysRefused, StoreRefused}
 use Rattle.vr_cli.specs.declared.status.Status.TheVariants as statuses
 use Rattle.vr_cli.proofs.FileLemmas.{told_more}
 use Rattle.vr_cli.proofs.ReplayLemmas.{replay_none}
@@ -33,6 +34,7 @@ nothing_written : (o : Option (List ℕ)) (answer : Tested Output) → IsAtMostB
 nothing_written o (Ok (text bytes)) = AppendsPrefix-none o bytes
 nothing_written o (Ok (flows_under checked)) = Keeps-same o
 nothing_written o (Ok (replay_of origin script)) = replay_none origin script o
+nothing_written o (Ok (summary_under made origin script)) = Keeps-same o
 nothing_written o (Err status) = Keeps-same o
 
 -- memory ran out before anything was written
@@ -50,6 +52,10 @@ says_before (Absent word) part rest o h = rw h refl
 says_before ReadFault part rest o h = tt
 says_before WriteFault part rest o h = absurd h
 says_before WantOfMemory part rest o h = nothing_written o (part >>= rest)
+says_before ListenFault part rest o h = absurd h
+says_before KeeperFault part rest o h = absurd h
+says_before (KeysRefused line) part rest o h = absurd h
+says_before (StoreRefused row) part rest o h = absurd h
 
 -- a replay whose policy is refused
 pub policy_says : (files : Option NamedFiles) (fuel : ℕ) (policy script : Placed) (status : Status) (o : Option (List ℕ))
@@ -74,6 +80,10 @@ later_count (Absent word) old between new a f h = omega (arith, h)
 later_count ReadFault old between new a f h = omega (arith, h)
 later_count WriteFault old between new a f h = h
 later_count WantOfMemory old between new a f h = h
+later_count ListenFault old between new a f h = h
+later_count KeeperFault old between new a f h = h
+later_count (KeysRefused line) old between new a f h = h
+later_count (StoreRefused row) old between new a f h = h
 
 -- what came while files were read
 pub counted_is_caused : {A : Type 0} (status : Status) (old new : FolderCounts) (before after : ℕ) → HasReadCause {A = A} old new (Err status) → IsCaused status old new before after
@@ -85,6 +95,10 @@ counted_is_caused (Absent word) old new before after h = h.counted
 counted_is_caused ReadFault old new before after h = h.counted
 counted_is_caused WriteFault old new before after h = absurd h.counted
 counted_is_caused WantOfMemory old new before after h = tt
+counted_is_caused ListenFault old new before after h = absurd h.counted
+counted_is_caused KeeperFault old new before after h = absurd h.counted
+counted_is_caused (KeysRefused line) old new before after h = absurd h.counted
+counted_is_caused (StoreRefused row) old new before after h = absurd h.counted
 
 -- a cause after other reads
 pub later_cause : {A B : Type 0} (old between new : FolderCounts) (value : B) (result : Tested A) → HasReadCause {A = B} old between (Ok value) → HasReadCause between new result → HasReadCause old new result
@@ -107,6 +121,10 @@ says_refused (Absent word) refusal answer old new h e = inl (cc (h, e))
 says_refused ReadFault refusal answer old new h e = inr tt
 says_refused WriteFault refusal answer old new h e = absurd (rw e at h)
 says_refused WantOfMemory refusal answer old new h e = inr tt
+says_refused ListenFault refusal answer old new h e = inl (cc (h, e))
+says_refused KeeperFault refusal answer old new h e = inl (cc (h, e))
+says_refused (KeysRefused line) refusal answer old new h e = inl (cc (h, e))
+says_refused (StoreRefused row) refusal answer old new h e = inl (cc (h, e))
 
 says_complete : (status : Status) (output : Output) (answer : Tested Output) (old new : Option (List ℕ)) → SaysOf status answer old new → answer ≡ Ok output → (status ≡ statuses.Ok) ⊎ IsOutside status
 says_complete statuses.Ok output answer old new h e = inl refl
@@ -117,6 +135,10 @@ says_complete (Absent word) output answer old new h e = cc (h, e)
 says_complete ReadFault output answer old new h e = inr tt
 says_complete WriteFault output answer old new h e = inr tt
 says_complete WantOfMemory output answer old new h e = inr tt
+says_complete ListenFault output answer old new h e = cc (h, e)
+says_complete KeeperFault output answer old new h e = cc (h, e)
+says_complete (KeysRefused line) output answer old new h e = cc (h, e)
+says_complete (StoreRefused row) output answer old new h e = cc (h, e)
 
 ends : (answer : Tested Output) (status : Status) (old new : Option (List ℕ)) → SaysOf status answer old new → Ends answer status old new
 ends answer status old new h = record {
@@ -135,6 +157,21 @@ pub ends_over : (files : Option NamedFiles) (answer : NamedFiles → Tested Outp
 ends_over files answer status old new h =
     told_more files (λ fs. SaysOf status (answer fs) old new) (λ fs. Ends (answer fs) status old new) (λ fs. ends (answer fs) status old new) h
 
+-- a status that has a cause is none of a server's
+code_of : (status : Status) (old new : FolderCounts) (before after : ℕ) → IsCaused status old new before after → exit_code status ≤ 7
+code_of statuses.Ok old new before after h = lit≤ tt
+code_of (Usage index) old new before after h = lit≤ tt
+code_of (PolicyRefused stage rule index) old new before after h = lit≤ tt
+code_of (ScriptRefused line) old new before after h = lit≤ tt
+code_of (Absent word) old new before after h = lit≤ tt
+code_of ReadFault old new before after h = lit≤ tt
+code_of WriteFault old new before after h = lit≤ tt
+code_of WantOfMemory old new before after h = lit≤ tt
+code_of ListenFault old new before after h = absurd h
+code_of KeeperFault old new before after h = absurd h
+code_of (KeysRefused line) old new before after h = absurd h
+code_of (StoreRefused row) old new before after h = absurd h
+
 module _ (status : Status) (old new : FolderCounts) (before after : ℕ) (h : IsCaused status old new before after) where
   caused_as : (named : Status) → status ≡ named → IsCaused named old new before after
   caused_as named e = subst (λ (s : Status). IsCaused s old new before after) e h
@@ -144,6 +181,7 @@ module _ (status : Status) (old new : FolderCounts) (before after : ℕ) (h : Is
     absent = λ word. caused_as (Absent word);
     read_fault = caused_as ReadFault;
     write_fault = caused_as WriteFault;
+    code = code_of status old new before after h;
   }
 
 pub never_usage : (status : Status) (old new : FolderCounts) (before after : ℕ) → IsCaused status old new before after → (place : ℕ) → status ≡ Usage place → ⊥

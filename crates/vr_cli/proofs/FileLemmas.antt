@@ -1,5 +1,5 @@
 -- What is known of a folder's files where it tells them, and readings that are the same of a file's first bytes.
-use Rattle.std.proofs.Common.{◌≡◌, ℕ, ◌+◌, ◌<◌, List, take, length, Option, None, Some, option_map, Ok, Err, ◌⊎◌, inl, inr, refl, sym, ap, ◌∙◌, arith}
+use Rattle.std.proofs.Common.{◌≡◌, ℕ, ◌+◌, ◌<◌, List, take, length, Option, None, Some, option_map, Ok, Err, ◌⊎◌, inl, inr, refl, sym, ap, ◌∙◌, subst, arith}
 use Rattle.std.proofs.lemmas.Bool.{cases_lt, lt-ltb}
 use Rattle.std.proofs.lemmas.List.{take_all, length-take-le}
 use Rattle.std.specs.Prelude.{IfSome, IfErr}
@@ -7,9 +7,10 @@ use Rattle.vr_base.specs.Checks.{◌>>=◌, result_map, or_fault, Told, nothing,
 use Rattle.vr_base.specs.Outside.{FolderCounts, Holds, IsNotThere, file_of}
 use Rattle.vr_cli.specs.Outputs.{Tested, NamedFiles, bytes_named, in_file, policy_from, checked_from, script_in, digits_from}
 use Rattle.vr_words.specs.Options.{Placed}
+use Rattle.vr_cli.specs.Servings.{keys_in}
 use Rattle.vr_cli.specs.Endings.{told, Gives, GivesOver, HasCount, IsRefusal}
 use Rattle.vr_cli.specs.declared.status.Status.{Status}
-use Rattle.vr_cli.specs.declared.status.Status.TheVariants.{PolicyRefused, ScriptRefused, WantOfMemory, Absent}
+use Rattle.vr_cli.specs.declared.status.Status.TheVariants.{PolicyRefused, ScriptRefused, KeysRefused, WantOfMemory, Absent}
 
 -- ---- facts of files that are told
 
@@ -60,7 +61,7 @@ whole_or_long most bytes = elim (cases_lt most (length bytes)) [
 ]
 
 -- A reading of at most so many bytes, which refuses each longer list in the same way.
-abbrev RefusesLonger : {A : Type 0} → (ℕ → List ℕ → Tested A) → ℕ → Tested A → Type 0
+abbrev pub RefusesLonger : {A : Type 0} → (ℕ → List ℕ → Tested A) → ℕ → Tested A → Type 0
 RefusesLonger reading most refusal = (bytes : List ℕ) → most < length bytes → reading most bytes ≡ refusal
 
 same_of_prefix : {A : Type 0} (reading : ℕ → List ℕ → Tested A) (most : ℕ) (refusal : Tested A) → RefusesLonger reading most refusal
@@ -79,6 +80,9 @@ long_checked most bytes h = rw (lt-ltb most (length bytes) h) refl
 pub long_script : (most : ℕ) → RefusesLonger script_in most (Err (ScriptRefused 0))
 long_script most bytes h = rw (lt-ltb most (length bytes) h) refl
 
+pub long_keys : (ids : List ℕ) (most : ℕ) → RefusesLonger (keys_in ids) most (Err (KeysRefused 0))
+long_keys ids most bytes h = rw (lt-ltb most (length bytes) h) refl
+
 pub long_hash : (most : ℕ) → RefusesLonger digits_from most (Err (PolicyRefused 1 1 0))
 long_hash most bytes h = rw (lt-ltb most (length bytes) h) refl
 
@@ -96,11 +100,16 @@ module _ {A : Type 0} (reading : ℕ → List ℕ → Tested A) (most : ℕ) (re
       let same : take (most + 1) whole ≡ bytes = cc in
       sym (same_of_prefix reading most refusal longer whole) ∙ ap (reading most) same
 
+  -- a claim about what was read of the first bytes is one about what the file says
+  pub claim_reading : (Claim : Tested A → Type 0) (files : Option NamedFiles) (word : Placed) (bytes : List ℕ) → GivesOver files (Ok bytes) (λ fs. result_map (take (most + 1)) (bytes_named word fs))
+      → Claim (reading most bytes) → IfSome files (λ fs. Claim (in_file (reading most) word fs))
+  claim_reading Claim None word bytes h k = tt
+  claim_reading Claim (Some fs) word bytes h k = subst Claim (sym (file_reading word.place (file_of word.text fs) bytes h)) k
+
   -- what was read of the first bytes is what the file says
   pub told_reading : (files : Option NamedFiles) (word : Placed) (bytes : List ℕ) (result : Tested A) → GivesOver files (Ok bytes) (λ fs. result_map (take (most + 1)) (bytes_named word fs))
       → Gives result (reading most bytes) → GivesOver files result (in_file (reading most) word)
-  told_reading None word bytes result h k = tt
-  told_reading (Some fs) word bytes result h k = rw (file_reading word.place (file_of word.text fs) bytes h) k
+  told_reading files word bytes result h k = claim_reading (Gives result) files word bytes h k
 
   -- what refused the first bytes refuses the file
   pub told_refusal : (files : Option NamedFiles) (word : Placed) (status : Status) → GivesOver {A = List ℕ} files (Err status) (λ fs. result_map (take (most + 1)) (bytes_named word fs))

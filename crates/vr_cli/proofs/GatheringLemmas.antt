@@ -116,7 +116,8 @@ module _ {E : Type 0} (result : Result (List ℕ) E) where
 
 module _ {A E : Type 0} (result : Result A E) where
   -- an error came, and of a text so far a prefix was written
-  pub WritesOne-failed : (a b : Option (List ℕ)) (IsWhole IsSoFar : List ℕ → Type 0) → IsErr result → PutsPrefixOfOne a b IsSoFar → WritesOne result a b IsWhole IsSoFar
+  pub WritesOne-failed : (a b : Option (List ℕ)) (IsWhole : A → List ℕ → Type 0) (IsSoFar : List ℕ → Type 0) → IsErr result → PutsPrefixOfOne a b IsSoFar
+      → WritesOne result a b IsWhole IsSoFar
   WritesOne-failed a b IsWhole IsSoFar failed h = by_result result failed
     where
       by_result : (r : Result A E) → IsErr r → WritesOne r a b IsWhole IsSoFar

@@ -1,7 +1,12 @@
 pub mod CommandLemmas
+pub mod CountLemmas
 pub mod EndingLemmas
 pub mod FileLemmas
 pub mod GatheringLemmas
 pub mod Mapped
 pub mod ReplayLemmas
+pub mod ServerFileLemmas
+pub mod ServerLemmas
+pub mod ServerWords
 pub mod StartLemmas
+pub mod SummaryLemmas

@@ -6,10 +6,12 @@ use Rattle.vr_base.specs.Checks.{Told, nothing, exactly, never, GivesBy}
 use Rattle.vr_base.specs.Outside.{FolderCounts, AppendsPrefix}
 use Rattle.vr_report.specs.Flows.{IsFlowText}
 use Rattle.vr_cli.specs.Gathering.{PutsOne, PutsPrefixOfOne}
-use Rattle.vr_cli.specs.Outputs.{Tested, NamedFiles, Output, text, flows_under, replay_of}
+use Rattle.vr_cli.specs.Outputs.{Tested, NamedFiles, Output, text, flows_under, replay_of, summary_under}
 use Rattle.vr_cli.specs.Replays.{IsReplaySoFar, IsReplayText}
+use Rattle.vr_cli.specs.Statuses.{exit_code}
+use Rattle.vr_cli.specs.Summaries.{IsSummary}
 use Rattle.vr_cli.specs.declared.status.Status.{Status}
-use Rattle.vr_cli.specs.declared.status.Status.TheVariants.{Usage, PolicyRefused, ScriptRefused, Absent, ReadFault, WriteFault, WantOfMemory}
+use Rattle.vr_cli.specs.declared.status.Status.TheVariants.{Usage, PolicyRefused, ScriptRefused, Absent, ReadFault, WriteFault, WantOfMemory, ListenFault, KeeperFault, KeysRefused, StoreRefused}
 use Rattle.vr_cli.specs.declared.status.Status.TheVariants as statuses
 
 -- ---- while files are read
@@ -38,6 +40,10 @@ HasCount old new (Absent word) = Rose old.absences new.absences
 HasCount old new ReadFault = Rose old.faults new.faults
 HasCount old new WriteFault = ⊥
 HasCount old new (Usage index) = ⊥
+HasCount old new ListenFault = ⊥
+HasCount old new KeeperFault = ⊥
+HasCount old new (KeysRefused line) = ⊥
+HasCount old new (StoreRefused row) = ⊥
 HasCount old new status = Unit {0}
 
 -- No count of the folder fell, and an absent file and a failed read were answered only where theirs rose.
@@ -78,16 +84,21 @@ abbrev pub PutsAll : Option (List ℕ) → Option (List ℕ) → Output → Type
 PutsAll old new (text bytes) = Appends old new bytes
 PutsAll old new (flows_under checked) = PutsOne old new (IsFlowText checked)
 PutsAll old new (replay_of origin script) = PutsOne old new (IsReplayText origin script)
+PutsAll old new (summary_under made origin script) =
+    PutsOne old new (IsSummary made origin script)
 
 -- A prefix of an output was written; of a replay that was cut off, of what the calls came to that were made.
 abbrev pub PutsPrefix : Option (List ℕ) → Option (List ℕ) → Output → Type 0
 PutsPrefix old new (text bytes) = AppendsPrefix old new bytes
 PutsPrefix old new (flows_under checked) = PutsPrefixOfOne old new (IsFlowText checked)
 PutsPrefix old new (replay_of origin script) = PutsPrefixOfOne old new (IsReplaySoFar origin script)
+PutsPrefix old new (summary_under made origin script) =
+    PutsPrefixOfOne old new (IsSummary made origin script)
 
--- a prefix of an output was written before memory ran out, and of flows nothing
+-- a prefix of an output was written before memory ran out, and of flows and a summary nothing
 abbrev pub PutsSome : Option (List ℕ) → Option (List ℕ) → Output → Type 0
 PutsSome old new (flows_under checked) = Keeps old new
+PutsSome old new (summary_under made origin script) = Keeps old new
 PutsSome old new output = PutsPrefix old new output
 
 -- the answer is an output, and all of it was written
@@ -145,7 +156,7 @@ pub record Ends
   pub complete : (output : Output) → answer ≡ Ok output → (status ≡ statuses.Ok) ⊎ IsOutside status
   -- a write fails only where the answer is an output, and a prefix of it was written
   pub cut_off : status ≡ WriteFault → IsCut answer old new
-  -- where memory ran out a prefix of the output was written, and of a refusal and of flows nothing
+  -- where memory ran out a prefix of the output was written, and of a refusal, of flows and of a summary nothing
   pub out_of_memory : status ≡ WantOfMemory → IsAtMostBegun answer old new
 
 -- What made the status of a command, by the folder's counts and the sink's count of faults, each before and after.
@@ -156,3 +167,5 @@ pub record HasCauses (status : Status) (old new : FolderCounts) (before after : 
   pub read_fault : status ≡ ReadFault → Rose old.faults new.faults
   -- a write failed
   pub write_fault : status ≡ WriteFault → Rose before after
+  -- it is none of the statuses of a server
+  pub code : exit_code status ≤ 7

@@ -32,11 +32,11 @@ PutsOne old new IsText = (bytes : List ℕ) × IsText bytes × Appends old new b
 abbrev pub PutsPrefixOfOne : Option (List ℕ) → Option (List ℕ) → (List ℕ → Type 0) → Type 0
 PutsPrefixOfOne old new IsText = (bytes : List ℕ) × IsText bytes × AppendsPrefix old new bytes
 
--- A whole text was written; or an error came, and a prefix of a text that may break off.
+-- A whole text was written, of the value that came; or an error came, and a prefix of a text that may break off.
 abbrev pub WritesOne : {A E : Type 0} → Result A E → Option (List ℕ) → Option (List ℕ)
-    → (List ℕ → Type 0) → (List ℕ → Type 0) → Type 0
+    → (A → List ℕ → Type 0) → (List ℕ → Type 0) → Type 0
 WritesOne result old new IsWhole IsSoFar =
-    MatchResult result (λ _. PutsOne old new IsWhole) (λ _. PutsPrefixOfOne old new IsSoFar)
+    MatchResult result (λ x. PutsOne old new (IsWhole x)) (λ _. PutsPrefixOfOne old new IsSoFar)
 
 -- All lines came to what was held, and the rest was returned; or an error, and the sink gained a prefix of what was held
 -- and of the first lines.

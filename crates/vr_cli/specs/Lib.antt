@@ -2,9 +2,11 @@ pub mod Commands
 pub mod Endings
 pub mod Faults
 pub mod Gathering
-pub mod MemFolders
-pub mod MemSinks
 pub mod Outputs
 pub mod Replays
-pub mod Rooms
+pub mod ServerEndings
+pub mod ServerFiles
+pub mod Servings
 pub mod Statuses
+pub mod Summaries
+pub mod Taken

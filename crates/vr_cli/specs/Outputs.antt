@@ -1,10 +1,9 @@
 -- What a task writes over the files of a folder, or the status of the first check that fails.
 use Rattle.std.specs.Prelude.{ℕ, List, [], ◌∷◌, ◌++◌, Result, Ok, Err, nat_lt, length, codes, decimal}
-use Rattle.hex.specs.Hex.{encode_lower}
-use Rattle.sha2.specs.Sha256.{sha256}
 use Rattle.vr_base.specs.Checks.{◌>>=◌, or_fault, unless_fault, fault_if, result_map_err}
 use Rattle.vr_base.specs.Outside.{file_of}
 use Rattle.vr_base.specs.Signs.{line_feed}
+use Rattle.vr_digests.specs.Digests.{digits_of}
 use Rattle.vr_files.specs.FileMaps.{no_files}
 use Rattle.vr_core.specs.Machine.{Origin}
 use Rattle.vr_policy_read.specs.Limits.{most_policy}
@@ -18,7 +17,8 @@ use Rattle.vr_policy_check.specs.Rules.{CheckedData, check_of}
 use Rattle.vr_policy_check.specs.declared.faults.CheckFault.{CheckFault}
 use Rattle.vr_report.specs.Script.{script_of, most_script}
 use Rattle.vr_report.specs.declared.script.Line.{Line}
-use Rattle.vr_words.specs.Grammar.{Task, hash, check, flows, replay}
+use Rattle.vr_generator.specs.Generator.{policy_text, script_text}
+use Rattle.vr_words.specs.Grammar.{Task, hash, check, flows, replay, make}
 use Rattle.vr_words.specs.Options.{Placed}
 use Rattle.vr_cli.specs.declared.status.Status.{Status}
 use Rattle.vr_cli.specs.declared.status.Status.TheVariants.{Usage, PolicyRefused, ScriptRefused, Absent}
@@ -57,10 +57,6 @@ counts_line policy =
     ++ (codes " " ++ (decimal (length policy.pipelines)
     ++ (codes " " ++ (decimal (length policy.pins) ++ line_feed ∷ [])))))))
 
--- the hash of a policy file with these bytes, in 64 digits
-abbrev pub digits_of : List ℕ → List ℕ
-digits_of bytes = encode_lower (sha256 bytes)
-
 -- the checked policy that at most so many bytes say, and the hash of its file
 abbrev pub policy_from : ℕ → List ℕ → Tested (CheckedData × List ℕ)
 policy_from most bytes = do
@@ -87,12 +83,17 @@ digits_from most bytes =
 abbrev pub in_file : {A : Type 0} → (List ℕ → Tested A) → Placed → NamedFiles → Tested A
 in_file reading word files = bytes_named word files >>= reading
 
--- What a task writes: this text; the text of the flows of a policy, whatever sets tell them; or the text of the replay of
--- a script, which the machine's replies make.
+-- how many steps all programs of a run may make together, where no words say it
+abbrev pub usual_fuel : ℕ
+usual_fuel = 50000000
+
+-- What a task writes: this text; the text of the flows of a policy, whatever sets tell them; the text of the replay of a
+-- script, which the machine's replies make; or the summary of the replay of a script that was made for a number.
 pub data Output : Type 0 where
   text : List ℕ → Output
   flows_under : CheckedData → Output
   replay_of : Origin → List Line → Output
+  summary_under : ℕ → Origin → List Line → Output
 
 -- The output of a task over the files of a folder. A task of another command has none; no words ask for it.
 abbrev pub output_of : Task → NamedFiles → Tested Output
@@ -109,4 +110,8 @@ output_of (replay fuel policy script) files = do
   said ← in_file (policy_from most_policy) policy files
   calls ← in_file (script_in most_script) script files
   Ok (replay_of (origin_under fuel said.0 said.1) calls)
+output_of (make count) files = do
+  said ← policy_from most_policy policy_text
+  calls ← script_in most_script (script_text count)
+  Ok (summary_under count (origin_under usual_fuel said.0 said.1) calls)
 output_of task files = Err (Usage 0)

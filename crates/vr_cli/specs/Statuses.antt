@@ -12,6 +12,10 @@ exit_code (statuses.Absent word) = 4
 exit_code statuses.ReadFault = 5
 exit_code statuses.WriteFault = 6
 exit_code statuses.WantOfMemory = 7
+exit_code statuses.ListenFault = 8
+exit_code statuses.KeeperFault = 9
+exit_code (statuses.KeysRefused line) = 10
+exit_code (statuses.StoreRefused row) = 11
 
 -- the word at this place, or no text where there is none
 abbrev pub word_at : List (List ℕ) → ℕ → List ℕ
@@ -29,3 +33,7 @@ status_text words (statuses.Absent word) = codes "absent: " ++ word_at words wor
 status_text words statuses.ReadFault = codes "read fault"
 status_text words statuses.WriteFault = codes "write fault"
 status_text words statuses.WantOfMemory = codes "out of memory"
+status_text words statuses.ListenFault = codes "listen fault"
+status_text words statuses.KeeperFault = codes "keeper fault"
+status_text words (statuses.KeysRefused line) = codes "keys refused: line " ++ decimal line
+status_text words (statuses.StoreRefused row) = codes "store refused: row " ++ decimal row

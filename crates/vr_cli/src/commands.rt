@@ -1,21 +1,29 @@
 ghost use Rattle.std.specs.Io.KnownBytes.{Keeps};
-ghost use Rattle.std.specs.Prelude.{◌≡◌, ℕ, ◌↔◌, map, string_bytes, IfOk, IfSome};
+ghost use Rattle.std.specs.Prelude.{◌≡◌, ℕ, ◌↔◌, ◌≤◌, [], map, string_bytes, IfOk, IfSome};
 ghost use Rattle.vr_base.specs.Checks.{result_map};
+ghost use Rattle.vr_base.specs.Outside.{FolderCounts};
 ghost use Rattle.vr_cli.specs.Commands.{commands, IsOurs};
-ghost use Rattle.vr_cli.specs.Endings.{Ends, HasCauses, IsCaused, IsQuiet, SaysOver, status_of};
+ghost use Rattle.vr_cli.specs.Endings.{Ends, HasCauses, IsCaused, IsQuiet, SaysOf, SaysOver, status_of};
 ghost use Rattle.vr_cli.specs.Outputs.{output_of, counts_line};
 ghost use Rattle.vr_cli.specs.declared.status.Status.{Status};
-ghost use Rattle.vr_words.specs.Grammar.{Task, AskFor, IsWrongAt, hash, check, flows, replay};
+ghost use Rattle.vr_words.specs.Grammar.{Task, AskFor, IsWrongAt, hash, check, flows, replay, make};
 ghost use Rattle.vr_words.specs.Views.{placed, task_of};
 
-use crate::reading::{load_checked, load_hash, load_policy, load_script};
+use crate::reading::{
+    load_checked, load_hash, load_policy, load_script, parse_policy, parse_script,
+};
 use crate::replaying::write_replay;
 use crate::status::Status;
+use crate::summing::summarize;
 use std::alloc::{AllocError, Global};
 use vr_base::{Folder, Sink, write_all};
+use vr_generator::generate;
 use vr_policy_read::Policy;
 use vr_report::flow_text;
 use vr_words::{Command, Verbs, Word, parse};
+
+/// How many steps all programs of a run of `make` may make together.
+const USUAL_FUEL: u64 = 50_000_000;
 
 /// Writes the hash of a policy and a line feed.
 #[tactic(auto, using(crate::proofs::EndingLemmas::unchanged))]
@@ -116,6 +124,24 @@ fn replay<F: Folder, O: Sink>(
     Ok(())
 }
 
+/// Replays what the generator makes for a number and writes the summary of it, which is made before any of it is written.
+#[tactic(auto, using(crate::proofs::EndingLemmas::unchanged))]
+fn make<O: Sink>(alloc: Global, count: u32, out: &mut O) -> Result<(), Status>
+    requires within { count ≤ 1000 }
+    ensures ends { SaysOf (status_of result) (output_of (make count) [])
+        (O.written out.old) (O.written out.new) }
+    ensures cause { (counts : FolderCounts) → IsCaused (status_of result) counts counts
+        (O.faults out.old) (O.faults out.new) }
+    ensures quiet { IsQuiet (status_of result) → Keeps (O.written out.old) (O.written out.new) }
+{
+    let (policy_bytes, script_bytes) = generate(alloc, count)?;
+    let (policy, hash) = parse_policy(alloc, policy_bytes.as_slice())?;
+    let script = parse_script(alloc, script_bytes.as_slice())?;
+    let summary = summarize(alloc, count, policy, hash, USUAL_FUEL, script)?;
+    write_all(out, summary.as_slice())?;
+    Ok(())
+}
+
 /// Does what is asked for.
 fn run<F: Folder, O: Sink>(
     alloc: Global,
@@ -140,7 +166,8 @@ fn run<F: Folder, O: Sink>(
             policy,
             script,
         } => replay(alloc, fuel, policy, script, folder, out),
-        Command::Make { .. } | Command::Serve { .. } => unreachable!(),
+        Command::Make { count } => make(alloc, count, out),
+        Command::Serve { .. } => unreachable!(),
     }
 }
 
@@ -157,7 +184,7 @@ fn parse_ours(words: &[String]) -> Result<Command<'_>, u32>
         check: true,
         flows: true,
         replay: true,
-        make: false,
+        make: true,
         serve: false,
     };
     parse(words, commands)
@@ -173,6 +200,9 @@ fn parse_ours(words: &[String]) -> Result<Command<'_>, u32>
 ///   learns and the regions over which they do.
 /// - `replay POLICY SCRIPT` makes the calls of a script in order, from no files on, and writes a line for each and one for
 ///   each file that is left. `--fuel N` says how many steps all programs of a run may make together.
+/// - `make N` replays a policy and a script that are made by a rule from the number, and writes a summary of it: the calls,
+///   how many replies had each number, the files that are left, and the SHA-256 of the text of the replay. Two builds of the
+///   program that write the same are taken to be the same.
 ///
 /// The checks come in this order, and the first that fails is the status: the words, the policy's file, what it says, the
 /// script's file, what it says. What the outside did is named by counts that rise.

@@ -1,7 +1,8 @@
-ghost use Rattle.std.specs.Prelude.{◌≡◌, take, IfErr};
+ghost use Rattle.std.specs.Prelude.{◌≡◌, take, IfErr, IfOk};
 ghost use Rattle.vr_base.specs.Checks.{result_map, result_map_err};
 ghost use Rattle.vr_base.specs.Outside.{file_of};
 ghost use Rattle.vr_cli.specs.Endings.{Gives, GivesOver, HasReadCause, IsRefusal};
+ghost use Rattle.vr_cli.specs.ServerFiles.{IsOfPolicy, IsSaid};
 ghost use Rattle.vr_cli.specs.Outputs.{bytes_named, in_file, checked_from, policy_from, rule_refusal, script_in, digits_from};
 ghost use Rattle.vr_policy_check.specs.Rules.{check_of};
 ghost use Rattle.vr_policy_read.specs.Limits.{most_policy};
@@ -18,7 +19,7 @@ use vr_words::Word;
 
 /// The first `most` bytes of the file that a word names.
 #[tactic(auto, using(crate::proofs::FileLemmas::told_bytes, crate::proofs::FileLemmas::told_absent, crate::proofs::FileLemmas::told_freely))]
-fn read_file<F: Folder>(
+pub fn read_file<F: Folder>(
     alloc: Global,
     folder: &mut F,
     word: Word<'_>,
@@ -28,6 +29,7 @@ fn read_file<F: Folder>(
     ensures told { GivesOver (F.files folder.old) result (λ files.
         result_map (take most) (bytes_named (placed word.entry) files)) }
     ensures cause { HasReadCause (F.counts folder.old) (F.counts folder.new) result }
+    ensures policy { IfErr result IsOfPolicy }
 {
     match folder.read(alloc, word.text, most) {
         Ok(bytes) => Ok(bytes),
@@ -41,6 +43,7 @@ fn read_file<F: Folder>(
 fn parse_checked(alloc: Global, bytes: &[u8]) -> Result<CheckedPolicy, Status>
     ensures answer { Gives result (checked_from most_policy bytes.now) }
     ensures refusal { IfErr result IsRefusal }
+    ensures policy { IfErr result IsOfPolicy }
 {
     match read_policy(alloc, bytes) {
         Ok(policy) => check_policy(alloc, policy),
@@ -62,6 +65,7 @@ fn parse_checked(alloc: Global, bytes: &[u8]) -> Result<CheckedPolicy, Status>
 fn check_policy(alloc: Global, policy: Policy) -> Result<CheckedPolicy, Status>
     ensures answer { Gives result (result_map_err rule_refusal (check_of policy)) }
     ensures refusal { IfErr result IsRefusal }
+    ensures policy { IfErr result IsOfPolicy }
 {
     match check(alloc, policy) {
         Ok(checked) => Ok(checked),
@@ -80,16 +84,17 @@ fn check_policy(alloc: Global, policy: Policy) -> Result<CheckedPolicy, Status>
 }
 
 /// The policy that the bytes say, checked, and their hash.
-fn parse_policy(alloc: Global, bytes: &[u8]) -> Result<(CheckedPolicy, [u8; 64]), Status>
+pub fn parse_policy(alloc: Global, bytes: &[u8]) -> Result<(CheckedPolicy, [u8; 64]), Status>
     ensures answer { Gives result (policy_from most_policy bytes.now) }
     ensures refusal { IfErr result IsRefusal }
+    ensures policy { IfErr result IsOfPolicy }
 {
     let checked = parse_checked(alloc, bytes)?;
     Ok((checked, policy_hash(bytes)))
 }
 
 /// The calls of the script that the bytes are.
-fn parse_script(alloc: Global, bytes: &[u8]) -> Result<Script, Status>
+pub fn parse_script(alloc: Global, bytes: &[u8]) -> Result<Script, Status>
     ensures answer { Gives result (script_in most_script bytes.now) }
     ensures refusal { IfErr result IsRefusal }
 {
@@ -126,6 +131,8 @@ pub fn load_policy<F: Folder>(
     ensures told { GivesOver (F.files folder.old) result
         (in_file (policy_from most_policy) (placed word.entry)) }
     ensures cause { HasReadCause (F.counts folder.old) (F.counts folder.new) result }
+    ensures policy { IfErr result IsOfPolicy }
+    ensures said { IfOk result IsSaid }
 {
     let bytes = read_file(alloc, folder, word, MOST_POLICY + 1)?;
     parse_policy(alloc, bytes.as_slice())

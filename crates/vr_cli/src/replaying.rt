@@ -2,7 +2,8 @@ ghost use Rattle.std.specs.Prelude.{◌≡◌, ◌∷◌, [], IfOk, Some};
 ghost use Rattle.vr_base.specs.Causes.{HasCauseOf};
 ghost use Rattle.vr_cli.specs.Gathering.{HandsIn, HandsInLines, WritesOne};
 ghost use Rattle.vr_cli.specs.Outputs.{origin_under};
-ghost use Rattle.vr_cli.specs.Replays.{AreCallLines, AreFirstLines, IsReplaySoFar, IsReplayText};
+ghost use Rattle.vr_cli.specs.Replays.{AreCallLines, AreFirstLines, IsReplaySoFar, IsReplayText, TellsReplay, reached};
+ghost use Rattle.vr_core.specs.Machine.{no_calls};
 ghost use Rattle.vr_files.specs.FileMaps.{no_files};
 ghost use Rattle.vr_report.specs.Texts.{files_text};
 
@@ -27,8 +28,8 @@ fn write_call<K: Keeper, O: Sink>(
 ) -> Result<Bytes, TextFault>
     requires never { (k : K) → K.faults k ≡ 0 }
     ensures lines { HandsInLines result (O.written out.old) (O.written out.new) text
-        (AreCallLines book.old.origin book.old.files (line ∷ []) book.new.files)
-        (AreFirstLines book.old.origin book.old.files (line ∷ [])) }
+        (AreCallLines book.old.origin (reached book.old) (line ∷ []) (reached book.new))
+        (AreFirstLines book.old.origin (reached book.old) (line ∷ [])) }
     ensures origin { book.new.origin ≡ book.old.origin }
     ensures cause { HasCauseOf TextFault.Failed (O.faults out.old) (O.faults out.new) result }
 {
@@ -54,8 +55,9 @@ fn write_calls<K: Keeper, O: Sink>(
 ) -> Result<Bytes, TextFault>
     requires never { (k : K) → K.faults k ≡ 0 }
     ensures lines { HandsInLines result (O.written out.old) (O.written out.new) text
-        (AreCallLines book.old.origin book.old.files script book.new.files)
-        (AreFirstLines book.old.origin book.old.files script) }
+        (AreCallLines book.old.origin (reached book.old) script (reached book.new))
+        (AreFirstLines book.old.origin (reached book.old) script) }
+    ensures origin { book.new.origin ≡ book.old.origin }
     ensures cause { HasCauseOf TextFault.Failed (O.faults out.old) (O.faults out.new) result }
 {
     let mut left = text;
@@ -67,7 +69,7 @@ fn write_calls<K: Keeper, O: Sink>(
 
 /// Adds a line for each file, in the order of their paths.
 #[tactic(auto, using(crate::proofs::GatheringLemmas::reaches_none, crate::proofs::GatheringLemmas::reaches_all))]
-fn write_files<O: Sink>(files: &Files, text: Bytes, out: &mut O) -> Result<Bytes, TextFault>
+pub fn write_files<O: Sink>(files: &Files, text: Bytes, out: &mut O) -> Result<Bytes, TextFault>
     ensures text { HandsIn result (O.written out.old) (O.written out.new) text
         (files_text files.now.map) }
     ensures cause { HasCauseOf TextFault.Failed (O.faults out.old) (O.faults out.new) result }
@@ -93,7 +95,7 @@ fn start_over<K: Keeper + Drop>(
     requires empty { K.rows keeper ≡ Some no_files }
     requires never { (k : K) → K.faults k ≡ 0 }
     ensures origin { IfOk result (λ book. book.origin ≡ origin_under fuel policy hash) }
-    ensures files { IfOk result (λ book. book.files ≡ no_files) }
+    ensures fresh { IfOk result (λ book. reached book ≡ no_calls no_files) }
 {
     match Book::start(alloc, policy, hash, keeper, b"", fuel) {
         Ok(book) => Ok(book),
@@ -105,29 +107,49 @@ fn start_over<K: Keeper + Drop>(
 }
 
 /// Makes the calls of the script by a book without calls, whose keeper never fails, and writes the text of the replay.
-fn write_text<K: Keeper + Drop, O: Sink>(
+fn write_text<K: Keeper, O: Sink>(
     alloc: Global,
-    book: Book<K>,
+    book: &mut Book<K>,
     hash: &[u8; 64],
     script: Script,
     out: &mut O,
 ) -> Result<(), TextFault>
     requires never { (k : K) → K.faults k ≡ 0 }
-    requires fresh { book.files ≡ book.origin.opening }
-    requires digits { book.origin.hash ≡ hash.now }
+    requires fresh { reached book.old ≡ no_calls book.old.origin.opening }
+    requires digits { book.old.origin.hash ≡ hash.now }
     ensures text { WritesOne result (O.written out.old) (O.written out.new)
-        (IsReplayText book.origin script) (IsReplaySoFar book.origin script) }
+        (λ _. TellsReplay book.old.origin script (reached book.new))
+        (IsReplaySoFar book.old.origin script) }
     ensures cause { HasCauseOf TextFault.Failed (O.faults out.old) (O.faults out.new) result }
 {
-    let mut book = book;
     let text = add_policy_line(gather(alloc)?, hash)?;
-    let text = write_calls(&mut book, script, text, out)?;
+    let text = write_calls(book, script, text, out)?;
     let text = write_files(book.files(), text, out)?;
     finish(text, out)
 }
 
 /// Replays the script from no files on, under a policy with this hash, and writes its text. All programs of a run may make
-/// as many steps together as there is fuel.
+/// as many steps together as there is fuel. The answer is the book with the calls, their replies and the files that are left.
+pub fn replay_script<O: Sink>(
+    alloc: Global,
+    policy: CheckedPolicy,
+    hash: [u8; 64],
+    fuel: u64,
+    script: Script,
+    out: &mut O,
+) -> Result<Book<NeverFails>, TextFault>
+    ensures text { WritesOne result (O.written out.old) (O.written out.new)
+        (λ book. TellsReplay (origin_under fuel policy hash) script (reached book))
+        (IsReplaySoFar (origin_under fuel policy hash) script) }
+    ensures cause { HasCauseOf TextFault.Failed (O.faults out.old) (O.faults out.new) result }
+{
+    let keeper = NeverFails::new(alloc, Rows::of(Vec::new(alloc)));
+    let mut book = start_over(alloc, policy, hash, fuel, keeper)?;
+    write_text(alloc, &mut book, &hash, script, out)?;
+    Ok(book)
+}
+
+/// Replays the script as `replay_script` does, and keeps nothing of it but the text.
 pub fn write_replay<O: Sink>(
     alloc: Global,
     policy: CheckedPolicy,
@@ -137,11 +159,10 @@ pub fn write_replay<O: Sink>(
     out: &mut O,
 ) -> Result<(), TextFault>
     ensures text { WritesOne result (O.written out.old) (O.written out.new)
-        (IsReplayText (origin_under fuel policy hash) script)
+        (λ _. IsReplayText (origin_under fuel policy hash) script)
         (IsReplaySoFar (origin_under fuel policy hash) script) }
     ensures cause { HasCauseOf TextFault.Failed (O.faults out.old) (O.faults out.new) result }
 {
-    let keeper = NeverFails::new(alloc, Rows::of(Vec::new(alloc)));
-    let book = start_over(alloc, policy, hash, fuel, keeper)?;
-    write_text(alloc, book, &hash, script, out)
+    let _book = replay_script(alloc, policy, hash, fuel, script, out)?;
+    Ok(())
 }

@@ -5,7 +5,7 @@ use crate::gathering::TextFault;
 use std::alloc::{AllocError, Global};
 use vr_base::{Failed, NoMemory};
 
-/// How a command ended.
+/// How a command or a server ended.
 #[derive(Clone, Copy, Debug, PartialEq, Eq)]
 pub enum Status {
     /// Everything was done and written.
@@ -26,6 +26,14 @@ pub enum Status {
     WriteFault,
     /// Memory ran out. A prefix of the text may have been written.
     WantOfMemory,
+    /// The listener could not listen on the port, or failed to accept a connection.
+    ListenFault,
+    /// The keeper could not load the files of the store.
+    KeeperFault,
+    /// The first line of the keys file that gives nobody a key, counted from 1, and 0 for a file that is too long.
+    KeysRefused { line: u32 },
+    /// The first row of the store that is no file, counted from 0.
+    StoreRefused { row: u32 },
 }
 
 impl From<AllocError> for Status {
@@ -103,6 +111,10 @@ impl Status {
             Status::ReadFault => 5,
             Status::WriteFault => 6,
             Status::WantOfMemory => 7,
+            Status::ListenFault => 8,
+            Status::KeeperFault => 9,
+            Status::KeysRefused { .. } => 10,
+            Status::StoreRefused { .. } => 11,
         }
     }
 
@@ -126,6 +138,10 @@ impl Status {
             Status::ReadFault => String::from_str(alloc, "read fault"),
             Status::WriteFault => String::from_str(alloc, "write fault"),
             Status::WantOfMemory => String::from_str(alloc, "out of memory"),
+            Status::ListenFault => String::from_str(alloc, "listen fault"),
+            Status::KeeperFault => String::from_str(alloc, "keeper fault"),
+            Status::KeysRefused { line } => format!(in alloc; "keys refused: line {line}"),
+            Status::StoreRefused { row } => format!(in alloc; "store refused: row {row}"),
         }
     }
 }

@@ -10,7 +10,8 @@ number_line name number = name ++ (codes " " ++ (decimal number ++ line_feed ∷
 
 -- the line of how many replies had a number
 abbrev pub reply_line : ℕ × ℕ → List ℕ
-reply_line counted = codes "reply " ++ (decimal counted.0 ++ (codes " " ++ (decimal counted.1 ++ line_feed ∷ [])))
+reply_line counted =
+    codes "reply " ++ (decimal counted.0 ++ (codes " " ++ (decimal counted.1 ++ line_feed ∷ [])))
 
 -- the summary: what was made, the calls, how many replies had each number, the files that are left with the sum of their
 -- sizes, and the SHA-256 of the text of the replay

@@ -115,6 +115,7 @@ fn write_calls(text: &mut String, mut state: u64, count: u32) -> Result<(), Allo
 }
 
 /// The policy and the script that are replayed for a number: the same for each build of the program.
+#[tactic(auto, unfolding(crate::specs::Generator::policy_text, crate::specs::Generator::script_text))]
 pub fn generate(alloc: Global, n: u32) -> Result<(Bytes, Bytes), NoMemory>
     requires { n ≤ 1000 }
     ensures policy { IfOk result (λ made. made.0 ≡ policy_text) }

@@ -7,7 +7,7 @@ use std::fmt::Write;
 use vr_base::{Bytes, NoMemory};
 
 /// What a replay of what was generated came to.
-#[derive(Debug)]
+#[derive(Debug, Drop)]
 pub struct Summary {
     /// The number for which it was generated.
     pub made: u32,
@@ -16,7 +16,7 @@ pub struct Summary {
     pub replies: [u64; 14],
     /// How many files are left, and the sum of their sizes.
     pub files: u64,
-    pub bytes: u64,
+    pub bytes: u128,
     /// The SHA-256 of the text of the replay, in hex digits.
     pub hash: [u8; 64],
 }
@@ -33,7 +33,7 @@ fn write_replies(text: &mut String, replies: &[u64]) -> Result<(), AllocError>
 }
 
 /// Adds a line of a word and a number.
-fn write_number(text: &mut String, name: &str, number: u64) -> Result<(), AllocError>
+fn write_number(text: &mut String, name: &str, number: u128) -> Result<(), AllocError>
     ensures { OnOk result (string_bytes text.new
         ≡ string_bytes text.old ++ number_line name.now number) }
 {
@@ -45,10 +45,10 @@ pub fn summary_text(alloc: Global, summary: &Summary) -> Result<Bytes, NoMemory>
     ensures { IfOk result (λ text. text ≡ summary_text summary.now) }
 {
     let mut text = String::new(alloc);
-    write_number(&mut text, "made", u64::from(summary.made))?;
-    write_number(&mut text, "calls", summary.calls)?;
+    write_number(&mut text, "made", u128::from(summary.made))?;
+    write_number(&mut text, "calls", u128::from(summary.calls))?;
     write_replies(&mut text, &summary.replies)?;
-    write_number(&mut text, "files", summary.files)?;
+    write_number(&mut text, "files", u128::from(summary.files))?;
     write_number(&mut text, "bytes", summary.bytes)?;
     text.push_str("hash ")?;
     let mut lines = Bytes::of(text.into_bytes());

@@ -1,6 +1,6 @@
 use Rattle.std.proofs.Common.{◌≡◌, ap, length, arith, ◌∙◌}
 use Rattle.std.specs.Vec.Iter.{into_iter_items}
-use Rattle.vr_cli.specs.Replays.{AreCallLines, AreFirstLines}
+use Rattle.vr_cli.specs.Replays.{AreCallLines, AreFirstLines, reached}
 use Rattle.vr_cli.proofs.GatheringLemmas.{HandsInLines-failed}
 use Rattle.vr_cli.proofs.ReplayLemmas.{called_more, called_cut, called_all}
 use Rattle.vr_cli.proofs.replaying.write_calls.Goals as goal
@@ -24,7 +24,7 @@ returns-in_err-left-clause-lines g c =
     let so_far = c.loop-line.invariant in
     let cut = rw so_far.origin at c.in_err-left.ensures.lines in
     HandsInLines-failed c.from_residual.result (g.O.Sink.written c.args.out.now) (g.O.Sink.written c.write_call.new.out) c.args.text
-    (AreCallLines book.origin book.files c.args.script c.write_call.new.book.files) (AreFirstLines book.origin book.files c.args.script) c.from_residual.ensures.0
+    (AreCallLines book.origin (reached book) c.args.script (reached c.write_call.new.book)) (AreFirstLines book.origin (reached book) c.args.script) c.from_residual.ensures.0
     (called_cut _ _ _ _ _ _ _ _ _ _ (rw c.in-Some.ensures.steps.0 at so_far.called) (g.O.Sink.written c.write_call.new.out) cut)
 
 pub returns-clause-lines : goal.returns-clause-lines

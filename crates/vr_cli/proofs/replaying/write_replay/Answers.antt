@@ -1,12 +1,7 @@
-use Rattle.vr_cli.specs.Outputs.{origin_under}
-use Rattle.vr_cli.specs.Replays.{IsReplaySoFar, IsReplayText}
-use Rattle.vr_cli.proofs.GatheringLemmas.{WritesOne-failed}
-use Rattle.vr_cli.proofs.ReplayLemmas.{replay_none}
+use Rattle.vr_cli.specs.Replays.{reached}
 use Rattle.vr_cli.proofs.replaying.write_replay.Goals as goal
 
-pub returns-in_err-book-clause-text : goal.returns-in_err-book-clause-text
-returns-in_err-book-clause-text g c =
-    let origin = origin_under c.args.fuel c.args.policy c.args.hash in
-    let out = g.O.Sink.written c.args.out.now in
-    WritesOne-failed c.from_residual.result out out (IsReplayText origin c.args.script) (IsReplaySoFar origin c.args.script) c.from_residual.ensures.0
-    (replay_none origin c.args.script out)
+pub returns-clause-text : goal.returns-clause-text
+returns-clause-text g c =
+    let told = c.in_ok-_book.ensures.text in
+    (told.0, (reached c.in_ok-_book._book, told.1), told.2)

@@ -1,8 +1,0 @@
--- The files that were passed do not have the name.
-use Rattle.std.proofs.Common.{◌≡◌, map, drop}
-use Rattle.vr_base.specs.Outside.{file_of}
-use Rattle.vr_cli.specs.MemFolders.{named}
-use Rattle.vr_cli.proofs.mem_folder.find.Given as goal
-
-abbrev pub invariant-loop-held : goal.invariant-loop-held
-invariant-loop-held l = file_of l.name (map named (drop l.held-index l.files.items)) ≡ file_of l.name (map named l.files.items)

@@ -1,0 +1,236 @@
+-- How a server ends: what its status says of its files, its book, its text and the connections that it served.
+use Rattle.std.specs.Prelude.{◌≡◌, ◌⊎◌, ℕ, ◌≤◌, ◌++◌, Bool, true, false, List, Option, IfSome, Result, Ok, Err, IfOk, IsOk}
+use Rattle.std.specs.Io.KnownBytes.{Appends, Keeps}
+use Rattle.vr_base.specs.Causes.{Rose}
+use Rattle.vr_base.specs.Links.{EndedLink}
+use Rattle.vr_base.specs.Outside.{AppendsPrefix, FolderCounts}
+use Rattle.vr_base.specs.declared.calls.Entry.{Entry}
+use Rattle.vr_files.specs.FileMaps.{FileMap}
+use Rattle.vr_core.specs.History.{BookState, IsBook}
+use Rattle.vr_core.specs.Isolation.{IsIsolatedHistory}
+use Rattle.vr_core.specs.Opening.{ComesFromRows}
+use Rattle.vr_core.specs.declared.opening.StartFault.{StartFault}
+use Rattle.vr_core.specs.declared.opening.StartFault.TheVariants as starts
+use Rattle.vr_face.specs.declared.doors.AttendFault.{AttendFault}
+use Rattle.vr_face.specs.declared.doors.AttendFault.TheVariants as sessions
+use Rattle.vr_face.specs.declared.keys.Keys.{Keys}
+use Rattle.vr_session.specs.Workers.{AttendsAlone}
+use Rattle.vr_words.specs.Grammar.{Serving}
+use Rattle.vr_cli.specs.Faults.{status_for}
+use Rattle.vr_cli.specs.Outputs.{NamedFiles, Tested}
+use Rattle.vr_cli.specs.ServerFiles.{AreKeys, AreSaid}
+use Rattle.vr_cli.specs.Servings.{Basis, server_text}
+use Rattle.vr_cli.specs.declared.gathering.TextFault.{TextFault}
+use Rattle.vr_cli.specs.declared.kept.Kept.{Kept}
+use Rattle.vr_cli.specs.declared.kept.Kept.TheVariants as kept
+use Rattle.vr_cli.specs.declared.status.Status.{Status}
+use Rattle.vr_cli.specs.declared.status.Status.TheVariants.{Usage, PolicyRefused, ScriptRefused, Absent, ReadFault, WriteFault, WantOfMemory, ListenFault, KeeperFault, KeysRefused, StoreRefused}
+use Rattle.vr_cli.specs.declared.status.Status.TheVariants as statuses
+
+-- ---- what the status says of the files
+
+-- a status of a server that was refused nothing that it reads
+abbrev pub IsPastReading : Status → Type 0
+IsPastReading statuses.Ok = Unit {0}
+IsPastReading WriteFault = Unit {0}
+IsPastReading WantOfMemory = Unit {0}
+IsPastReading ListenFault = Unit {0}
+IsPastReading KeeperFault = Unit {0}
+IsPastReading (StoreRefused row) = Unit {0}
+IsPastReading status = ⊥
+
+-- What a status says of what a server rests on, or of the refusal: a refusal is the answer; after a failed read, and
+-- without memory, the answer is unknown; and with each other status nothing is refused.
+abbrev pub SaysOfBasis : Status → Tested Basis → Type 0
+SaysOfBasis (PolicyRefused stage rule index) answer = answer ≡ Err (PolicyRefused stage rule index)
+SaysOfBasis (KeysRefused line) answer = answer ≡ Err (KeysRefused line)
+SaysOfBasis (Absent word) answer = answer ≡ Err (Absent word)
+SaysOfBasis ReadFault answer = Unit {0}
+SaysOfBasis WantOfMemory answer = Unit {0}
+SaysOfBasis status answer = IsPastReading status × IsOk answer
+
+-- ---- what made the status
+
+-- A count never falls, and this one status comes only where it rose.
+pub record IsCounted (fault status : Status) (before now : ℕ) : Type 0 where
+  pub later : before ≤ now
+  pub failed : status ≡ fault → Rose before now
+
+-- The counts of a server's outside: those of its folder, and the faults of its sink, its listener and its keeper.
+pub record OutsideCounts : Type 0 where
+  pub folder : FolderCounts
+  pub sink : ℕ
+  pub listener : ℕ
+  pub keeper : ℕ
+
+-- these counts
+abbrev pub outside : FolderCounts → ℕ → ℕ → ℕ → OutsideCounts
+outside folder sink listener keeper =
+    record { folder = folder; sink = sink; listener = listener; keeper = keeper }
+
+-- What made the status of a server, by the counts of its outside before and after.
+pub record ServerCauses (status : Status) (old new : OutsideCounts) : Type 0 where
+  -- a file was not there
+  pub absent : (word : ℕ) → status ≡ Absent word → Rose old.folder.absences new.folder.absences
+  -- a read failed
+  pub read_fault : status ≡ ReadFault → Rose old.folder.faults new.folder.faults
+  -- a write failed
+  pub write_fault : status ≡ WriteFault → Rose old.sink new.sink
+  -- the listener didn't listen, or a connection was not accepted
+  pub listen_fault : status ≡ ListenFault → Rose old.listener new.listener
+  -- the store was not loaded
+  pub keeper_fault : status ≡ KeeperFault → Rose old.keeper new.keeper
+  -- a server has no script
+  pub no_script : (line : ℕ) → status ≡ ScriptRefused line → ⊥
+
+-- No count of the outside rose.
+pub record NothingFailed (old new : OutsideCounts) : Type 0 where
+  pub absences : ¬ Rose old.folder.absences new.folder.absences
+  pub reads : ¬ Rose old.folder.faults new.folder.faults
+  pub writes : ¬ Rose old.sink new.sink
+  pub connections : ¬ Rose old.listener new.listener
+  pub store : ¬ Rose old.keeper new.keeper
+
+-- what may still come where nothing that a server reads is refused and no count rose: all was done and written, or memory
+-- ran out, or a row of the store is refused
+abbrev pub MayStillCome : Status → Type 0
+MayStillCome statuses.Ok = Unit {0}
+MayStillCome WantOfMemory = Unit {0}
+MayStillCome (StoreRefused row) = Unit {0}
+MayStillCome status = ⊥
+
+-- ---- what was kept
+
+-- a claim about the keeper, where no book was started
+abbrev pub IfStore : {K : Type 0} → Kept K → (K → Type 0) → Type 0
+IfStore (kept.Store keeper) Claim = Claim keeper
+IfStore (kept.Book book) Claim = Unit {0}
+
+-- a claim about the book, where one was started
+abbrev pub IfBook : {K : Type 0} → Kept K → (BookState K → Type 0) → Type 0
+IfBook (kept.Store keeper) Claim = Unit {0}
+IfBook (kept.Book book) Claim = Claim book
+
+-- the keeper, by itself or under its book
+abbrev pub kept_keeper : {K : Type 0} → Kept K → K
+kept_keeper (kept.Store keeper) = keeper
+kept_keeper (kept.Book book) = book.keeper
+
+-- ---- a server whose book was not started
+
+-- a status of a server that didn't come to listen
+abbrev pub IsBeforeListening : Status → Type 0
+IsBeforeListening (Usage index) = Unit {0}
+IsBeforeListening (PolicyRefused stage rule index) = Unit {0}
+IsBeforeListening (Absent word) = Unit {0}
+IsBeforeListening ReadFault = Unit {0}
+IsBeforeListening (KeysRefused line) = Unit {0}
+IsBeforeListening status = ⊥
+
+-- a status of a server that didn't come to start its book
+abbrev pub IsBeforeStart : Status → Type 0
+IsBeforeStart ListenFault = Unit {0}
+IsBeforeStart status = IsBeforeListening status
+
+-- a status of a server whose book was not started; a listener that failed doesn't listen, and one listens where the store
+-- was asked
+abbrev pub IsUnstarted : Status → Bool → Type 0
+IsUnstarted ListenFault listens = listens ≡ false
+IsUnstarted KeeperFault listens = listens ≡ true
+IsUnstarted (StoreRefused row) listens = listens ≡ true
+IsUnstarted WantOfMemory listens = Unit {0}
+IsUnstarted status listens = IsBeforeListening status
+
+-- the status of a book that was not started
+abbrev pub start_status : StartFault → Status
+start_status starts.KeeperFailed = KeeperFault
+start_status (starts.BadRow row) = StoreRefused row
+start_status starts.OutOfMemory = WantOfMemory
+
+-- How a server ended whose book was not started, by whether its listener listens, what its sink has, and its keeper.
+pub record EndsUnstarted {K : Type 0} (rows : K → Option FileMap) (status : Status)
+    (listens : Bool) (old new : Option (List ℕ)) (before after : K) : Type 0 where
+  pub unstarted : IsUnstarted status listens
+  -- nothing was written
+  pub quiet : Keeps old new
+  -- the keeper is as it was, where it wasn't asked, and else has the same rows
+  pub unasked : IsBeforeStart status → after ≡ before
+  pub same : rows after ≡ rows before
+  -- a row is refused that is the first bad one of those that the keeper gave
+  pub refused : (row : ℕ) → status ≡ StoreRefused row
+      → ComesFromRows (rows before) (Err (starts.BadRow row))
+
+-- ---- a server whose book was started
+
+-- how a server ends whose sessions came to this and whose last lines were written so: want of memory in a session comes
+-- before a failed write, and that before a connection that wasn't accepted
+abbrev pub status_after : Result (Unit {0}) AttendFault → Result (Unit {0}) TextFault → Status
+status_after (Err sessions.OutOfMemory) written = WantOfMemory
+status_after attended (Err fault) = status_for fault
+status_after (Err sessions.Failed) (Ok done) = ListenFault
+status_after (Ok served) (Ok done) = statuses.Ok
+
+-- How much of its text a server wrote whose book was started: all; or a prefix, where a write failed or memory ran out.
+-- There is no other status.
+abbrev pub WritesUpTo : Status → Option (List ℕ) → Option (List ℕ) → List ℕ → Type 0
+WritesUpTo statuses.Ok old new text = Appends old new text
+WritesUpTo ListenFault old new text = Appends old new text
+WritesUpTo WriteFault old new text = AppendsPrefix old new text
+WritesUpTo WantOfMemory old new text = AppendsPrefix old new text
+WritesUpTo status old new text = ⊥
+
+-- How a server ended whose book was started, by how it was to run, whether its listener listens, what its sink has, the
+-- keeper that was handed in, and the book.
+pub record EndsStarted {K : Type 0} (rows : K → Option FileMap) (is_loaded : K → Bool)
+    (serving : Serving) (status : Status) (listens : Bool) (old new : Option (List ℕ))
+    (keeper : K) (book : BookState K) : Type 0 where
+  pub listening : listens ≡ true
+  pub writes : WritesUpTo status old new (server_text serving.port book)
+  -- the book began with the steps that a run may make, and with the rows that were loaded
+  pub fuel : book.origin.fuel ≡ serving.fuel
+  pub loaded : ComesFromRows (rows keeper) (Ok book.origin.opening)
+  pub opening : IfSome (rows keeper) (λ map. book.origin.opening ≡ map)
+  -- its journal is legal from there on, and its files are those after it
+  pub legal : IsBook rows is_loaded book
+  -- and what each identity was replied depends on no calls but those of which the policy lets it learn
+  pub isolated : IsIsolatedHistory book.origin book.journal
+
+-- The first lines were written before any connection was handed out: all of them are there, or there was nobody.
+abbrev pub ComesAfter : Option (List ℕ) → Option (List ℕ) → List ℕ → Type 0 → Type 0
+ComesAfter old new first Nobody = ((rest : List ℕ) × Appends old new (first ++ rest)) ⊎ Nobody
+
+-- The book began under the policy that a server rests on, with the hash of its file.
+abbrev pub IsUnder : {K : Type 0} → Tested Basis → BookState K → Type 0
+IsUnder answer book =
+    (basis : Basis) × (answer ≡ Ok basis)
+    × (book.origin.policy ≡ basis.policy) × (book.origin.hash ≡ basis.hash)
+
+-- ---- the connections
+
+-- whether the status says that memory ran out
+abbrev pub wants_memory : Status → Bool
+wants_memory WantOfMemory = true
+wants_memory status = false
+
+-- One worker served the connections that were handed out, one after the other, to the holders of these keys, gave them
+-- back in that order, and the calls of their sessions are, in order, the entries of the worker's seat in the journal. The
+-- counts are the connections that were handed out, and the faults of the keeper, each before and after; those of the
+-- keeper had become some number when the sessions began. Where a session wanted memory the status says so.
+pub record ServesAlone (keys : Keys) (status : Status)
+    (old : Option (List EndedLink)) (list : List EndedLink) (handed_old handed_new : ℕ)
+    (before after : ℕ) (journal : List Entry) : Type 0 where
+  pub answer : Result (Unit {0}) AttendFault
+  pub began : ℕ
+  pub since : before ≤ began
+  pub attends : AttendsAlone keys old list handed_old handed_new began after journal answer
+  pub memory : answer ≡ Err sessions.OutOfMemory → status ≡ WantOfMemory
+
+-- The same, by keys that some bytes say under a policy with these ids: those of the keys file, where it is told.
+pub record IsServedAlone (ids : List ℕ) (files : Option NamedFiles)
+    (answer : NamedFiles → Tested Basis) (status : Status)
+    (old : Option (List EndedLink)) (list : List EndedLink)
+    (handed_old handed_new : ℕ) (before after : ℕ) (journal : List Entry) : Type 0 where
+  pub keys : Keys
+  pub said : AreSaid ids keys
+  pub read : IfSome files (λ fs. IfOk (answer fs) (λ basis. AreKeys basis.held keys))
+  pub served : ServesAlone keys status old list handed_old handed_new before after journal
