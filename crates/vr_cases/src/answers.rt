@@ -1,102 +1,78 @@
 //! The verbs of cases.
 
 use crate::names::{
-    told_bit, told_grant, told_letters, told_mask, told_missing, told_path, told_word,
+    push_grant, push_letters, push_mask, push_missing, push_path, push_right, push_word,
 };
-use crate::pipelines::{told_paths, told_pipe, told_spelling};
-use crate::policies::{told_hash, told_policy, told_reading};
-use crate::regions::{
-    told_identity, told_program, told_quota, told_region, told_regions, told_run,
-};
-use crate::rules::{told_check, told_piped, told_places, told_rule};
+use crate::pipelines::{push_paths, push_pipe, push_spelling};
+use crate::policies::{push_hash, push_policy, push_reading};
+use crate::regions::push_answer_of_regions;
+use crate::rules::{checked, push_check, push_piped, push_places, push_rule};
+use crate::scripts::push_script;
 use crate::texts::Texts;
-use anyhow::{Context, Result, bail};
+use crate::unanswered::Unanswered;
 use std::alloc::Global;
 
-/// The first word as a number, and the others.
-fn counted(words: &str) -> Result<(u32, &str)> {
-    let (number, rest) = words.split_once(" ").context("a word is missing")?;
-    Ok((number.parse::<u32>()?, rest))
-}
-
-/// The first word and the text after it.
-fn two(texts: &Texts, words: &str) -> Result<(Vec<u8>, Vec<u8>)> {
-    let (first, second) = words.split_once(" ").context("a word is missing")?;
-    Ok((texts.text(first)?, texts.text(second)?))
-}
-
-fn places(alloc: Global, texts: &Texts, words: &str) -> Result<String> {
-    let (id, words) = counted(words)?;
-    told_places(alloc, id, &texts.text(words)?)
-}
-
-fn piped(alloc: Global, texts: &Texts, words: &str) -> Result<String> {
-    let (id, words) = counted(words)?;
-    told_piped(alloc, id, &texts.text(words)?)
-}
-
-fn region(alloc: Global, texts: &Texts, words: &str) -> Result<String> {
-    let (name, text) = two(texts, words)?;
-    told_region(alloc, &name, &text)
-}
-
-fn quota(alloc: Global, texts: &Texts, words: &str) -> Result<String> {
-    let (name, text) = two(texts, words)?;
-    told_quota(alloc, &name, &text)
-}
-
-fn identity(alloc: Global, texts: &Texts, words: &str) -> Result<String> {
-    let (place, words) = counted(words)?;
-    let (name, text) = two(texts, words)?;
-    told_identity(alloc, place, &name, &text)
-}
-
-fn program(alloc: Global, texts: &Texts, words: &str) -> Result<String> {
-    let (place, words) = counted(words)?;
-    let (name, text) = two(texts, words)?;
-    told_program(alloc, place, &name, &text)
-}
-
-fn run(alloc: Global, texts: &Texts, words: &str) -> Result<String> {
-    let (identity, words) = counted(words)?;
-    let (pipeline, words) = counted(words)?;
-    told_run(alloc, identity, pipeline, &texts.text(words)?)
-}
-
-/// The answer to a case of a policy.
-fn answer_policy(alloc: Global, texts: &Texts, verb: &str, words: &str) -> Result<String> {
+/// Adds the answer to a case of a text.
+fn push_answer_of_text(
+    told: &mut String,
+    alloc: Global,
+    verb: &str,
+    text: &[u8],
+) -> Result<(), Unanswered> {
     match verb {
-        "policy" => told_policy(alloc, &texts.text(words)?),
-        "reads" => told_reading(alloc, &texts.text(words)?),
-        "hash" => told_hash(alloc, &texts.text(words)?),
-        "check" => told_check(alloc, &texts.text(words)?),
-        "rule" => told_rule(alloc, words),
-        "places" => places(alloc, texts, words),
-        "piped" => piped(alloc, texts, words),
-        "regions" => told_regions(alloc, &texts.text(words)?),
-        "region" => region(alloc, texts, words),
-        "quota" => quota(alloc, texts, words),
-        "identity" => identity(alloc, texts, words),
-        "program" => program(alloc, texts, words),
-        "run" => run(alloc, texts, words),
-        _ => bail!("{verb}?"),
+        "path" => push_path(told, alloc, text),
+        "grant" => push_grant(told, alloc, text),
+        "letters" => push_letters(told, text),
+        "pipe" => push_pipe(told, alloc, text),
+        "spells" => push_spelling(told, alloc, text),
+        "paths" => push_paths(told, alloc, text),
+        "policy" => push_policy(told, alloc, text),
+        "reads" => push_reading(told, alloc, text),
+        "hash" => push_hash(told, text),
+        "check" => push_check(told, alloc, text),
+        "script" => push_script(told, alloc, text),
+        _ => Err(Unanswered::Form),
     }
 }
 
-/// The answer to a case.
-pub fn answer(alloc: Global, texts: &Texts, line: &str) -> Result<String> {
+/// Adds the answer to a case whose last word is a policy that meets the rules.
+fn push_answer_of_policy(
+    told: &mut String,
+    alloc: Global,
+    texts: &Texts,
+    verb: &str,
+    words: &str,
+) -> Result<(), Unanswered> {
+    let (words, policy) = words.rsplit_once(" ").unwrap_or(("", words));
+    let text = texts.text(policy)?;
+    let policy = checked(alloc, &text)?;
+    match verb {
+        "places" => push_places(told, &policy, words),
+        "piped" => push_piped(told, alloc, &policy, words),
+        _ => push_answer_of_regions(told, alloc, verb, words, &policy),
+    }
+}
+
+/// Adds the answer to a case.
+pub fn push_answer(
+    told: &mut String,
+    alloc: Global,
+    texts: &Texts,
+    line: &str,
+) -> Result<(), Unanswered> {
     let (verb, words) = line.split_once(" ").unwrap_or((line, ""));
     match verb {
-        "path" => told_path(alloc, &texts.text(words)?),
-        "grant" => told_grant(alloc, &texts.text(words)?),
-        "word" => told_word(alloc, words),
-        "letters" => told_letters(alloc, &texts.text(words)?),
-        "missing" => told_missing(alloc, words),
-        "right" => told_bit(alloc, words.parse::<u8>()?),
-        "mask" => told_mask(alloc, words.parse::<u32>()?),
-        "pipe" => told_pipe(alloc, &texts.text(words)?),
-        "spells" => told_spelling(alloc, &texts.text(words)?),
-        "paths" => told_paths(alloc, &texts.text(words)?),
-        _ => answer_policy(alloc, texts, verb, words),
+        "word" => push_word(told, alloc, words),
+        "missing" => push_missing(told, words),
+        "right" => push_right(told, words),
+        "mask" => push_mask(told, words),
+        "rule" => push_rule(told, words),
+        "places" | "piped" | "regions" | "region" | "quota" | "identity" | "program" | "run" => {
+            push_answer_of_policy(told, alloc, texts, verb, words)
+        }
+        _ => {
+            let text = texts.text(words)?;
+            push_answer_of_text(told, alloc, verb, &text)
+        }
     }
 }

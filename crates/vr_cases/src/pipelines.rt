@@ -1,85 +1,91 @@
 //! Pipelines.
 
-use crate::texts::shown;
-use anyhow::{Context, Result};
+use crate::texts::push_shown;
+use crate::unanswered::Unanswered;
 use std::alloc::Global;
-use vr_base::{Bytes, NoMemory, Path};
+use vr_base::Path;
 use vr_pipe::{Pipe, Tree, parse_pipe, print_pipe};
+
+fn push_marked(told: &mut String, mark: &str, path: &Path) -> Result<(), Unanswered> {
+    told.push_str(mark)?;
+    push_shown(told, path.as_slice())
+}
 
 /// Adds a tree in prefix form: `|` and `;` before their two parts, `?` and `!` before the parts of an `if` without and
 /// with an `else`.
-fn push_outline(tree: &Tree, out: &mut Bytes) -> Result<(), NoMemory> {
+fn push_outline(told: &mut String, tree: &Tree) -> Result<(), Unanswered> {
     match tree {
-        Tree::Program(path) => out.push_slice(path.as_slice()),
+        Tree::Program(path) => push_shown(told, path.as_slice()),
         Tree::If(path, taken, None) => {
-            out.push_slice(b"?")?;
-            out.push_slice(path.as_slice())?;
-            push_outline(taken.get(), out)
+            push_marked(told, "?", path)?;
+            push_outline(told, taken.get())
         }
         Tree::If(path, taken, Some(other)) => {
-            out.push_slice(b"!")?;
-            out.push_slice(path.as_slice())?;
-            push_outline(taken.get(), out)?;
-            push_outline(other.get(), out)
+            push_marked(told, "!", path)?;
+            push_outline(told, taken.get())?;
+            push_outline(told, other.get())
         }
         Tree::Feed(first, second) => {
-            out.push_slice(b"|")?;
-            push_outline(first.get(), out)?;
-            push_outline(second.get(), out)
+            told.push_str("|")?;
+            push_outline(told, first.get())?;
+            push_outline(told, second.get())
         }
         Tree::Then(first, second) => {
-            out.push_slice(b";")?;
-            push_outline(first.get(), out)?;
-            push_outline(second.get(), out)
+            told.push_str(";")?;
+            push_outline(told, first.get())?;
+            push_outline(told, second.get())
         }
     }
 }
 
-/// The text of a pipeline, as it is printed.
-pub fn printed(alloc: Global, pipe: &Pipe) -> Result<Bytes> {
-    print_pipe(alloc, pipe).ok().context("memory")
+/// Adds a pipeline as it is printed.
+pub fn push_printed(told: &mut String, alloc: Global, pipe: &Pipe) -> Result<(), Unanswered> {
+    match print_pipe(alloc, pipe) {
+        Ok(text) => push_shown(told, text.as_slice()),
+        Err(_) => Err(Unanswered::NoMemory),
+    }
+}
+
+fn push_read(told: &mut String, alloc: Global, pipe: &Pipe) -> Result<(), Unanswered> {
+    push_outline(told, pipe.tree())?;
+    told.push_str(" as ")?;
+    push_printed(told, alloc, pipe)
 }
 
 /// `pipe TEXT`: the tree of a text in prefix form, and the text as it is printed; or its first fault.
-pub fn told_pipe(alloc: Global, text: &[u8]) -> Result<String> {
-    let pipe = match parse_pipe(alloc, text) {
-        Ok(pipe) => pipe,
-        Err(fault) => return Ok(format!(in alloc; "{fault:?}")?),
-    };
-    let mut outline = Bytes::of(Vec::new(alloc));
-    push_outline(pipe.tree(), &mut outline)
-        .ok()
-        .context("memory")?;
-    let text = printed(alloc, &pipe)?;
-    Ok(format!(in alloc;
-        "{} as {}",
-        shown(outline.as_slice())?,
-        shown(text.as_slice())?
-    )?)
-}
-
-/// `spells TEXT`: `a pipeline`, or the first fault of a text.
-pub fn told_spelling(alloc: Global, text: &[u8]) -> Result<String> {
+pub fn push_pipe(told: &mut String, alloc: Global, text: &[u8]) -> Result<(), Unanswered> {
     match parse_pipe(alloc, text) {
-        Ok(_) => Ok(String::from_str(alloc, "a pipeline")?),
-        Err(fault) => Ok(format!(in alloc; "{fault:?}")?),
+        Ok(pipe) => push_read(told, alloc, &pipe),
+        Err(fault) => Ok(write!(told, "{fault:?}")?),
     }
 }
 
-fn push_paths(told: &mut String, paths: &[Path]) -> Result<()> {
+/// `spells TEXT`: `a pipeline`, or the first fault of a text.
+pub fn push_spelling(told: &mut String, alloc: Global, text: &[u8]) -> Result<(), Unanswered> {
+    match parse_pipe(alloc, text) {
+        Ok(_) => Ok(told.push_str("a pipeline")?),
+        Err(fault) => Ok(write!(told, "{fault:?}")?),
+    }
+}
+
+fn push_each(told: &mut String, paths: &[Path]) -> Result<(), Unanswered> {
     for path in paths {
-        told.push_str(" ")?;
-        told.push_str(shown(path.as_slice())?)?;
+        push_marked(told, " ", path)?;
     }
     Ok(())
 }
 
-/// `paths TEXT`: the paths of a pipeline's programs and tests, in their order.
-pub fn told_paths(alloc: Global, text: &[u8]) -> Result<String> {
-    let pipe = parse_pipe(alloc, text).ok().context("no pipeline")?;
-    let mut told = String::from_str(alloc, "programs")?;
-    push_paths(&mut told, pipe.programs())?;
+fn push_paths_of(told: &mut String, pipe: &Pipe) -> Result<(), Unanswered> {
+    told.push_str("programs")?;
+    push_each(told, pipe.programs())?;
     told.push_str("; tests")?;
-    push_paths(&mut told, pipe.tests())?;
-    Ok(told)
+    push_each(told, pipe.tests())
+}
+
+/// `paths TEXT`: the paths of a pipeline's programs and tests, in their order.
+pub fn push_paths(told: &mut String, alloc: Global, text: &[u8]) -> Result<(), Unanswered> {
+    match parse_pipe(alloc, text) {
+        Ok(pipe) => push_paths_of(told, &pipe),
+        Err(_) => Err(Unanswered::Form),
+    }
 }

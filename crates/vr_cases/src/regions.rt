@@ -1,69 +1,61 @@
 //! The regions of policies.
 
-ghost use Rattle.std.specs.Prelude.{◌<◌, length, IfSome};
+ghost use Rattle.std.specs.Prelude.{◌<◌, length, IfOk};
 ghost use Rattle.vr_rights.specs.Tables.{IsRegionsOf};
 
-use crate::texts::shown;
-use anyhow::{Context, Result, bail};
+use crate::names::path_of;
+use crate::texts::{push_shown, two};
+use crate::unanswered::Unanswered;
 use std::alloc::Global;
-use vr_base::{RightsWord, parse_path};
-use vr_policy_check::{CheckedPolicy, check};
-use vr_policy_read::read_policy;
+use vr_base::RightsWord;
+use vr_policy_check::CheckedPolicy;
 use vr_rights::{Holder, Missing, Regions};
 
-/// A policy with its regions.
-fn made(alloc: Global, text: &[u8]) -> Option<(CheckedPolicy, Regions)>
-    ensures { IfSome result (λ made. IsRegionsOf made.0 made.1) }
-{
-    let policy = read_policy(alloc, text).ok()?;
-    let policy = check(alloc, policy).ok()?;
-    let regions = Regions::new(alloc, &policy).ok()?;
-    Some((policy, regions))
-}
-
 /// The region of a path by its name.
-fn region_at(alloc: Global, regions: &Regions, name: &[u8]) -> Option<u32>
-    ensures { IfSome result (λ region. region < length regions.now.names) }
+fn region_at(alloc: Global, regions: &Regions, name: &str) -> Result<u32, Unanswered>
+    ensures { IfOk result (λ region. region < length regions.now.names) }
 {
-    let path = parse_path(alloc, name).ok()?;
-    regions.region_of(&path)
+    let path = path_of(alloc, name)?;
+    match regions.region_of(&path) {
+        Some(region) => Ok(region),
+        None => Err(Unanswered::Form),
+    }
 }
 
 /// `regions POLICY`: the names of the regions in their order.
-pub fn told_regions(alloc: Global, text: &[u8]) -> Result<String> {
-    let Some((_, regions)) = made(alloc, text) else {
-        bail!("no policy");
-    };
-    let mut told = format!(in alloc; "{}", regions.count())?;
+fn push_regions(told: &mut String, regions: &Regions) -> Result<(), Unanswered> {
+    write!(told, "{}", regions.count())?;
     for region in 0..regions.count() {
         told.push_str(" ")?;
-        told.push_str(shown(regions.name_of(region).as_slice())?)?;
+        push_shown(told, regions.name_of(region).as_slice())?;
     }
-    Ok(told)
+    Ok(())
 }
 
 /// `region PATH POLICY`: the name of a path's region.
-pub fn told_region(alloc: Global, name: &[u8], text: &[u8]) -> Result<String> {
-    let Some((_, regions)) = made(alloc, text) else {
-        bail!("no policy");
-    };
-    match region_at(alloc, &regions, name) {
-        Some(region) => Ok(String::from_str(alloc, shown(regions.name_of(region).as_slice())?)?),
-        None => Ok(String::from_str(alloc, "none")?),
+fn push_region(
+    told: &mut String,
+    alloc: Global,
+    regions: &Regions,
+    name: &str,
+) -> Result<(), Unanswered> {
+    let path = path_of(alloc, name)?;
+    match regions.region_of(&path) {
+        Some(region) => push_shown(told, regions.name_of(region).as_slice()),
+        None => Ok(told.push_str("none")?),
     }
 }
 
 /// `quota PATH POLICY`: the quota of a path's region.
-pub fn told_quota(alloc: Global, name: &[u8], text: &[u8]) -> Result<String> {
-    let Some((_, regions)) = made(alloc, text) else {
-        bail!("no policy");
-    };
-    let Some(region) = region_at(alloc, &regions, name) else {
-        bail!("no region");
-    };
-    match regions.quota_of(region) {
-        Some(bytes) => Ok(format!(in alloc; "{bytes}")?),
-        None => Ok(String::from_str(alloc, "none")?),
+fn push_quota(
+    told: &mut String,
+    alloc: Global,
+    regions: &Regions,
+    name: &str,
+) -> Result<(), Unanswered> {
+    match regions.quota_of(region_at(alloc, regions, name)?) {
+        Some(bytes) => Ok(write!(told, "{bytes}")?),
+        None => Ok(told.push_str("none")?),
     }
 }
 
@@ -120,38 +112,80 @@ fn missing_in_run(
     }
 }
 
+fn push_found(told: &mut String, word: Option<RightsWord>) -> Result<(), Unanswered> {
+    match word {
+        Some(word) => Ok(write!(told, "{}", word.word())?),
+        None => Err(Unanswered::Form),
+    }
+}
+
 /// `identity PLACE PATH POLICY`: the word on a path of the identity at a place of the list.
-pub fn told_identity(alloc: Global, place: u32, name: &[u8], text: &[u8]) -> Result<String> {
-    let Some((policy, regions)) = made(alloc, text) else {
-        bail!("no policy");
-    };
-    let Some(region) = region_at(alloc, &regions, name) else {
-        bail!("no region");
-    };
-    let word = word_of_identity(&policy, &regions, place, region).context("no identity")?;
-    Ok(format!(in alloc; "{}", word.word())?)
+fn push_identity(
+    told: &mut String,
+    alloc: Global,
+    policy: &CheckedPolicy,
+    regions: &Regions,
+    words: &str,
+) -> Result<(), Unanswered>
+    requires { IsRegionsOf policy.now regions.now }
+{
+    let (place, name) = two(words)?;
+    let place = place.parse::<u32>()?;
+    let region = region_at(alloc, regions, name)?;
+    push_found(told, word_of_identity(policy, regions, place, region))
 }
 
 /// `program PLACE PATH POLICY`: the same of the program at a place.
-pub fn told_program(alloc: Global, place: u32, name: &[u8], text: &[u8]) -> Result<String> {
-    let Some((policy, regions)) = made(alloc, text) else {
-        bail!("no policy");
-    };
-    let Some(region) = region_at(alloc, &regions, name) else {
-        bail!("no region");
-    };
-    let word = word_of_program(&policy, &regions, place, region).context("no program")?;
-    Ok(format!(in alloc; "{}", word.word())?)
+fn push_program(
+    told: &mut String,
+    alloc: Global,
+    policy: &CheckedPolicy,
+    regions: &Regions,
+    words: &str,
+) -> Result<(), Unanswered>
+    requires { IsRegionsOf policy.now regions.now }
+{
+    let (place, name) = two(words)?;
+    let place = place.parse::<u32>()?;
+    let region = region_at(alloc, regions, name)?;
+    push_found(told, word_of_program(policy, regions, place, region))
 }
 
 /// `run IDENTITY PIPELINE POLICY`: `may run`, or the first program of the pipeline at a place that the identity at a
 /// place may not execute.
-pub fn told_run(alloc: Global, identity: u32, pipeline: u32, text: &[u8]) -> Result<String> {
-    let Some((policy, regions)) = made(alloc, text) else {
-        bail!("no policy");
-    };
-    match missing_in_run(&policy, &regions, identity, pipeline).context("no run")? {
-        Ok(()) => Ok(String::from_str(alloc, "may run")?),
-        Err(missing) => Ok(format!(in alloc; "missing {}", missing.program)?),
+fn push_run(
+    told: &mut String,
+    policy: &CheckedPolicy,
+    regions: &Regions,
+    words: &str,
+) -> Result<(), Unanswered>
+    requires { IsRegionsOf policy.now regions.now }
+{
+    let (identity, pipeline) = two(words)?;
+    let identity = identity.parse::<u32>()?;
+    match missing_in_run(policy, regions, identity, pipeline.parse::<u32>()?) {
+        Some(Ok(())) => Ok(told.push_str("may run")?),
+        Some(Err(missing)) => Ok(write!(told, "missing {}", missing.program)?),
+        None => Err(Unanswered::Form),
+    }
+}
+
+/// Adds the answer to a case of the regions of a policy.
+pub fn push_answer_of_regions(
+    told: &mut String,
+    alloc: Global,
+    verb: &str,
+    words: &str,
+    policy: &CheckedPolicy,
+) -> Result<(), Unanswered> {
+    let regions = Regions::new(alloc, policy)?;
+    match verb {
+        "regions" => push_regions(told, &regions),
+        "region" => push_region(told, alloc, &regions, words),
+        "quota" => push_quota(told, alloc, &regions, words),
+        "identity" => push_identity(told, alloc, policy, &regions, words),
+        "program" => push_program(told, alloc, policy, &regions, words),
+        "run" => push_run(told, policy, &regions, words),
+        _ => Err(Unanswered::Form),
     }
 }
