@@ -1,6 +1,7 @@
 #!/bin/sh
-# Replays each case of examples/ by the built program, and compares what it writes with what the case expects. Where the
-# compiler is installed, the programs are compiled anew and compared with those that the scripts have as hex.
+# Replays each case of examples/ by the built program, and compares what it writes with what the case expects; where the case
+# says how people read it, what the filter makes of it. Where the compiler is installed, the programs are compiled anew and
+# compared with those that the scripts have as hex.
 #   tests/examples.sh
 set -eu
 cd "$(dirname "$0")/.."
@@ -13,7 +14,25 @@ for expected in examples/*/expected.txt; do
         echo "examples: $folder writes something else than expected.txt" >&2
         wrong=$((wrong + 1))
     fi
+    if [ -f "$folder/readable.txt" ] &&
+        ! examples/readable "$folder/policy.json" "$folder/script.txt" <"$expected" | cmp -s - "$folder/readable.txt"; then
+        echo "examples: $folder reads otherwise than readable.txt" >&2
+        wrong=$((wrong + 1))
+    fi
 done
+tests/readable.py || wrong=$((wrong + 1))
+if ! ./vr serve 2>&1 | grep -q '^usage: word 1$'; then
+    echo "examples: this program doesn't serve; examples/serve is left out"
+elif ! command -v curl >/dev/null; then
+    echo "examples: curl is missing; examples/serve is left out"
+else
+    port=$(python3 -c 'import socket; it = socket.socket(); it.bind(("127.0.0.1", 0)); print(it.getsockname()[1])')
+    cases=$((cases + 1))
+    if ! timeout 120 examples/serve/run.sh "$port" | cmp -s - examples/serve/answers.txt; then
+        echo "examples: examples/serve/run.sh writes something else than answers.txt" >&2
+        wrong=$((wrong + 1))
+    fi
+fi
 if command -v clang >/dev/null && command -v wasm-ld >/dev/null && [ -d /usr/include/wasm32-wasi ]; then
     built=$(mktemp -d)
     trap 'rm -rf "$built"' EXIT

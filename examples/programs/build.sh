@@ -4,7 +4,7 @@
 set -eu
 cd "$(dirname "$0")/.."
 for source in */*.c; do
-    clang --target=wasm32-wasi -Oz -Wall -Wextra -Werror -Wl,--strip-all -Wl,-z,stack-size=65536 \
-        -o "${source%.c}.wasm" "$source"
+    clang --target=wasm32-wasi -Oz -Wall -Wextra -Werror -Wl,--strip-all -Wl,--stack-first \
+        -lc-printscan-no-floating-point -o "${source%.c}.wasm" "$source"
     echo "${source%.c}.wasm $(wc -c <"${source%.c}.wasm") bytes"
 done

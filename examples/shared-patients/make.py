@@ -50,6 +50,8 @@ def main():
         program = module.read()
     anna, lakeside = patients(random.Random("shared patients"))
     case = Scenario(FOLDER, policy(program))
+    case.keep("anna.txt", anna.decode())
+    case.keep("lakeside.txt", lakeside.decode())
     case.note("Each hospital sees that the runtime has the policy that it signed.")
     case.asks_hash(ANNA)
     case.asks_hash(LAKESIDE)
