@@ -28,7 +28,8 @@ if not wabt:
 for name in PROGRAMS:
     path = os.path.join("bench", "programs", name + ".wasm")
     count, took, start = steps(path), best(program, [FUEL, path], runs).seconds, starting(path)
-    line = f"{name}: {count / 1e6:.1f} million steps in {took:.2f} s, {count / took / 1e6:.0f} million a second; a start takes {start * 1e6:.0f} microseconds"
+    line = f"{name}: {count / 1e6:.1f} million steps, {took:.2f} s, {count / took / 1e6:.0f} million steps a second, "
+    line += f"{start * 1e6:.0f} microseconds a start"
     if wabt:
-        line += f"; {best(wabt, ['--run-all-exports', path], runs).seconds / took:.2f} times as fast as wasm-interp"
+        line += f", {took / best(wabt, ['--run-all-exports', path], runs).seconds:.2f} of wasm-interp's time"
     print(line)

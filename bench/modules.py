@@ -107,5 +107,5 @@ with tempfile.TemporaryDirectory() as folder:
             took.append(best(program, [path], runs).seconds)
         line = f"{title} ({len(text)} bytes): {took[1]:.3f} s, {took[1] / took[0]:.1f} times a quarter's"
         if wabt:
-            line += f", {took[1] / best(wabt, [path], runs).seconds:.2f} times wasm-validate's"
+            line += f", {took[1] / best(wabt, [path], runs).seconds:.2f} of wasm-validate's time"
         print(line)

@@ -48,4 +48,4 @@ for name in SHAPES:
         took.append((size, seconds))
         print(f"{name}, {size / 2**20:.2f} MiB: {seconds:.3f} s, {peak / 2**20:.0f} MiB, {peak / size:.1f} times the file")
     (small, quick), (large, slow) = took
-    print(f"{name}: {large / small:.1f} times the bytes take {slow / quick:.1f} times as long")
+    print(f"{name}, {large / small:.1f} times the bytes: {slow / quick:.1f} times as long")

@@ -76,8 +76,8 @@ for name in ("100 files", "10,000 files", "64,000 files", "refused"):
     )
 for name in ("512 appends", "2,048 appends"):
     print(f"{name} of 4 KiB: {took[name].seconds:.3f} s, {took[name].peak / MIB:.0f} MiB")
-print(f"four times the appends take {took['2,048 appends'].seconds / took['512 appends'].seconds:.1f} times as long")
+print(f"four times the appends: {took['2,048 appends'].seconds / took['512 appends'].seconds:.1f} times as long")
 for count, name in ((1, "one large write"), (8, "eight large writes")):
     seconds, peak = took[name]
     beside = (peak - count * 16 * MIB) / (16 * MIB)
-    print(f"{name} of 16 MiB: {seconds:.3f} s, {peak / MIB:.0f} MiB, beside the bodies in the journal {beside:.1f} times the file")
+    print(f"{name} of 16 MiB: {seconds:.3f} s, {peak / MIB:.0f} MiB, {beside:.1f} times the file beside the bodies in the journal")

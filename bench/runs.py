@@ -55,14 +55,14 @@ def empty_runs(replays):
     many = [write] + [f"1 write /d/f{k} text {k}" for k in range(10000)]
     over_few, over_many = replays.added(few, 1000)[0] * 1000, replays.added(many, 1000)[0] * 1000
     print(f"an empty program over 10 files: {over_few:.0f} microseconds a run")
-    print(f"over 10,000 files, which it doesn't touch: {over_many:.0f} microseconds, {over_many - over_few:.0f} more")
+    print(f"an empty program over 10,000 files: {over_many:.0f} microseconds a run, {over_many - over_few:.0f} microseconds more")
 
 
 def copies(replays):
     for size in (4, 16):
         setup = [f"1 write /program hex {module('copy').hex()}", f"1 write /d/in fill 61 {size * MIB}"]
         seconds, peak = replays.added(setup, 1)
-        print(f"{size} MiB copied in pieces of 4 KiB: {seconds:.3f} s, peak {peak / MIB:.0f} MiB")
+        print(f"{size} MiB copied in pieces of 4 KiB: {seconds:.3f} s, {peak / MIB:.0f} MiB at the peak")
 
 
 def long_runs(replays):
@@ -74,7 +74,7 @@ def long_runs(replays):
             line += f", {count / seconds / 1e6:.0f} million steps a second"
         if wabt:
             theirs = best(wabt, ["--run-all-exports", os.path.join(PROGRAMS, name + ".wasm")], replays.runs).seconds
-            line += f"; wasm-interp takes {theirs / seconds:.2f} times as long"
+            line += f", {seconds / theirs:.2f} of wasm-interp's time"
         print(line)
 
 

@@ -44,9 +44,10 @@ def main():
             "SELECT files.path, body, size FROM files LEFT JOIN sizes USING(path) ORDER BY files.path"
         )
         count = len(rows.fetchall())
-        print(f"python's sqlite3 reads {count} rows in {time.time() - begun:.2f} s")
+        print(f"python's sqlite3 reading {count} rows: {time.time() - begun:.2f} s")
     print(f"a load that takes a store of the first schema over: {times[0]:.2f} s")
-    print(f"a load: {times[1]:.2f} s, {times[2]:.2f} s")
+    print(f"the next load: {times[1]:.2f} s")
+    print(f"the load after it: {times[2]:.2f} s")
 
 
 main()
