@@ -3,11 +3,13 @@
 
     serve.py PROGRAM [SECONDS [NAME..]]     sixteen clients ask for so many seconds (10); only the tests with these names
 """
-import os, random, resource, signal, socket, subprocess, sys, threading, time
+import os, pathlib, random, resource, signal, socket, subprocess, sys, threading, time
 
 sys.dont_write_bytecode = True
 PROGRAM = os.path.abspath(sys.argv[1])
 SECONDS = float(sys.argv[2]) if len(sys.argv) > 2 else 10
+# What follows on the text of status 1.
+USAGE = (pathlib.Path(__file__).resolve().parent / "usage.txt").read_bytes()
 try:
     import sqlite3
 except ImportError:
@@ -354,7 +356,8 @@ def statuses(place):
         ]:
             done = subprocess.run([PROGRAM, "serve", *words], cwd=place, capture_output=True, timeout=60)
             found = (done.returncode, done.stderr, done.stdout)
-            assert found == (status, error.encode() + b"\n", b""), (words, found)
+            usage = USAGE if status == 1 else b""
+            assert found == (status, error.encode() + b"\n" + usage, b""), (words, found)
     with open("/dev/full", "wb") as full:
         words = [PROGRAM, "serve", "--port", free, "policy", "keys"]
         done = subprocess.run(words, cwd=place, stdout=full, stderr=subprocess.PIPE, timeout=60)
