@@ -128,7 +128,7 @@ ROWS = [
     (["make", ""], 1, "usage: word 1", b""),
     (["make", "1", "1"], 1, "usage: word 2", b""),
     (["make", "--fuel", "1", "1"], 1, "usage: word 1", b""),
-    (["serve", "policy", "script"], 1, "usage: word 0", b""),
+    (["serve", "policy", "script"], 10, "keys refused: line 1", b""),
     (["replay", "policy", "script", ""], 1, "usage: word 3", b""),
     (["hash"], 1, "usage: word 1", b""),
     (["hash", "-"], 1, "usage: word 1", b""),
