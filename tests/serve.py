@@ -201,14 +201,15 @@ def more_peers_than_workers(place):
 
 def stopped_and_continued(place):
     """A stop of the process while its workers wait in the system is no fault."""
-    with Server(PROGRAM, place, "--workers", "2") as server, server.peer() as peer:
-        same(peer.ask("GET", "/policy/hash", 1), whole("GET", TOLD_HASH))
-        for _ in range(3):
-            server.process.send_signal(signal.SIGSTOP)
-            time.sleep(0.1)
-            server.process.send_signal(signal.SIGCONT)
-            time.sleep(0.1)
-        same(peer.ask("GET", "/policy/hash", 1), whole("GET", TOLD_HASH))
+    with Server(PROGRAM, place, "--workers", "2") as server:
+        with server.peer() as peer:
+            same(peer.ask("GET", "/policy/hash", 1), whole("GET", TOLD_HASH))
+            for _ in range(3):
+                server.process.send_signal(signal.SIGSTOP)
+                time.sleep(0.1)
+                server.process.send_signal(signal.SIGCONT)
+                time.sleep(0.1)
+            same(peer.ask("GET", "/policy/hash", 1), whole("GET", TOLD_HASH))
         serves(server)
 
 
