@@ -25,6 +25,7 @@ use Rattle.vr_policy_check.specs.Checked.{pipeline_place}
 use Rattle.vr_policy_check.specs.Rules.{CheckedData}
 use Rattle.vr_files.specs.Changes.{Change, applied}
 use Rattle.vr_files.specs.FileMaps.{FileMap}
+use Rattle.vr_files.specs.declared.pages.TheConstants.{MOST_BYTES}
 use Rattle.vr_policy_read.specs.declared.entries.Identity.{Identity}
 use Rattle.vr_exec.specs.declared.outcome.Outcome.{Outcome}
 use Rattle.vr_exec.specs.declared.outcome.Outcome.TheVariants as runs
@@ -106,14 +107,10 @@ start_check policy pipe files = result_map_err start_refusal (ready_answer polic
 abbrev pub body_at : FileMap → List ℕ → Checked (List ℕ)
 body_at files path = or_fault (NoSuchFile path) (get files path)
 
--- the most bytes of a file
-abbrev pub most_file : ℕ
-most_file = 16777216
-
 -- nothing, where a file may have this size
 abbrev pub size_check : ℕ → Checked (Unit {0})
 size_check size =
-    unless_fault (fault_if (nat_lt most_file size) (TooLarge (min size (2 ^ 64 - 1)))) tt
+    unless_fault (fault_if (nat_lt MOST_BYTES size) (TooLarge (min size (2 ^ 64 - 1)))) tt
 
 -- nothing, where the quota of a path's region lets the files become others
 abbrev pub quota_check : CheckedData → FileMap → FileMap → List ℕ → Checked (Unit {0})

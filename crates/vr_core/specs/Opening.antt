@@ -6,10 +6,10 @@ use Rattle.vr_base.specs.Checks.{Told, nothing, exactly, never, GivesBy, unless_
 use Rattle.vr_base.specs.Names.{path_of}
 use Rattle.vr_base.specs.declared.names.PathFault.{PathFault}
 use Rattle.vr_files.specs.FileMaps.{FileMap}
+use Rattle.vr_files.specs.declared.pages.TheConstants.{MOST_BYTES}
 use Rattle.vr_keeper.specs.Keepers.{Row, rows_map}
 use Rattle.vr_keeper.specs.declared.keepers.KeepFault.{KeepFault}
 use Rattle.vr_keeper.specs.declared.keepers.KeepFault.TheVariants as keep
-use Rattle.vr_core.specs.Machine.{most_file}
 use Rattle.vr_core.specs.declared.opening.StartFault.{StartFault}
 use Rattle.vr_core.specs.declared.opening.StartFault.TheVariants.{KeeperFailed, BadRow, OutOfMemory}
 
@@ -25,12 +25,12 @@ is_path name = is_same name (path_of name)
 -- whether a row has no path in its normal form, or one of the paths before, or too many bytes
 abbrev pub is_bad : List (List ℕ) → Row → Bool
 is_bad before row =
-    not (is_path row.0) || list_any (bytes_eq row.0) before || nat_lt most_file (length row.1)
+    not (is_path row.0) || list_any (bytes_eq row.0) before || nat_lt MOST_BYTES (length row.1)
 
 -- whether a row makes no file beside those of the rows before it
 abbrev pub is_refused : FileMap → Row → Bool
 is_refused files row =
-    not (is_path row.0) || is_some (get files row.0) || nat_lt most_file (length row.1)
+    not (is_path row.0) || is_some (get files row.0) || nat_lt MOST_BYTES (length row.1)
 
 -- the place of the first bad row from here on; these are the paths before
 abbrev pub bad_row_after : List (List ℕ) → List Row → Option ℕ

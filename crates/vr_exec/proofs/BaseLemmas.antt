@@ -4,7 +4,7 @@ use Rattle.vr_base.specs.Rights.{has_bit, fd_read, fd_seek, fd_tell, fd_write, f
 use Rattle.vr_wasm_num.specs.Memory.{Contents}
 use Rattle.vr_wasm_in_step.specs.Kept.{RepliesKeep, StayKept, world_after}
 use Rattle.vr_wasm_in_step.proofs.KeptLemmas.{stays_kept}
-use Rattle.vr_wasi_calls.specs.Calls.{Done, argument, args_get_call, args_sizes_get_call, count_read, cuts, environ_sizes_get_call, fd_close_call, fd_fdstat_get_call, fd_filestat_get_call, fd_filestat_set_size_call, fd_prestat_dir_name_call, fd_prestat_get_call, fd_read_call, fd_seek_call, fd_tell_call, fd_write_call, file_with, left_at, most_file, moved_at, opening_check, origin_of, path_filestat_get_call, path_open_call, path_unlink_file_call, place_from, room_check, size_at, stat_check, wants_directory, with_opened, written_at}
+use Rattle.vr_wasi_calls.specs.Calls.{Done, argument, args_get_call, args_sizes_get_call, count_read, cuts, environ_sizes_get_call, fd_close_call, fd_fdstat_get_call, fd_filestat_get_call, fd_filestat_set_size_call, fd_prestat_dir_name_call, fd_prestat_get_call, fd_read_call, fd_seek_call, fd_tell_call, fd_write_call, file_with, left_at, moved_at, opening_check, origin_of, path_filestat_get_call, path_open_call, path_unlink_file_call, place_from, room_check, size_at, stat_check, wants_directory, with_opened, written_at}
 use Rattle.vr_wasi_calls.specs.Checks.{Checked, refuse_if, or_fault}
 use Rattle.vr_wasi_calls.specs.Descriptors.{as_file, base_check, base_of, body_of as file_body, directory_check, free_number, open_at, preopened_check, stream_at}
 use Rattle.vr_wasi_calls.specs.Functions.{function_of}
@@ -18,6 +18,7 @@ use Rattle.vr_wasi_calls.specs.declared.errno.Errno.TheVariants.{Fbig, Inval, Mf
 use Rattle.vr_wasi_calls.specs.declared.functions.Function.{Function}
 use Rattle.vr_wasi_calls.specs.declared.functions.Function.TheVariants.{FdRead, FdWrite, FdSeek, FdTell, FdClose, FdFdstatGet, FdFilestatGet, FdFilestatSetSize, FdPrestatGet, FdPrestatDirName, PathOpen, PathFilestatGet, PathUnlinkFile, ArgsSizesGet, ArgsGet, EnvironSizesGet, EnvironGet, SchedYield, ClockTimeGet, RandomGet, ProcExit}
 use Rattle.vr_wasi_fs.specs.Chains.{Passes, passes, refused, after_value, after_test}
+use Rattle.vr_files.specs.declared.pages.TheConstants.{MOST_BYTES}
 
 -- the world is over the same files as before
 abbrev pub SameBase : World → World → Type 0
@@ -100,7 +101,7 @@ module _ (w : World) where
     set_size_based fd size =
         after_value Based (as_file (descriptor_at w fd)) _ (λ file _.
         after_test Based (base_check (File file) fd_filestat_set_size) _ (λ _ _.
-        after_test Based (refuse_if (nat_lt most_file size) Fbig) _ (λ _ _.
+        after_test Based (refuse_if (nat_lt MOST_BYTES size) Fbig) _ (λ _ _.
         after_value Based (file_body w file) _ (λ body _. passes refl))))
 
     path_filestat_based : (fd at len out : ℕ) → Passes Based (path_filestat_get_call w m fd at len out)

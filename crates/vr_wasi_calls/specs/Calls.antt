@@ -4,6 +4,7 @@ use Rattle.std.specs.Prelude.{ℕ, zero, suc, ◌+◌, ◌-◌, ◌^◌, min, Bo
 use Rattle.vr_base.specs.Rights.{has_bit, fd_read, fd_seek, fd_tell, fd_write, fd_filestat_get, fd_filestat_set_size, path_open, path_create_file, path_filestat_get, path_filestat_set_size, path_unlink_file}
 use Rattle.vr_files.specs.Bodies.{written, resized}
 use Rattle.vr_files.specs.FileMaps.{bytes_at}
+use Rattle.vr_files.specs.declared.pages.TheConstants.{MOST_BYTES}
 use Rattle.vr_wasi_abi.specs.Layouts.{fdstat, filestat, prestat}
 use Rattle.vr_wasi_abi.specs.declared.iovecs.Iovec.{Iovec}
 use Rattle.vr_wasm_num.specs.Memory.{Contents, bytes_of, with_piece}
@@ -69,10 +70,6 @@ fd_read_call w m fd at count out = do
 abbrev pub most_output : ℕ
 most_output = 1048576
 
--- the most bytes of a file
-abbrev pub most_file : ℕ
-most_file = 16777216
-
 -- where a write begins: at the end of a file that is appended to, else at the position
 abbrev pub start_of : OpenFile → List ℕ → ℕ
 start_of file body = if file.appends then length body else file.position
@@ -90,7 +87,7 @@ room_check w Output size = refuse_if (nat_lt most_output (length w.output + size
 room_check w Errors size = refuse_if (nat_lt most_output size) Nospc
 room_check w (File file) size = do
   body ← file_body w file
-  refuse_if (nat_lt most_file (start_of file body + size)) Fbig
+  refuse_if (nat_lt MOST_BYTES (start_of file body + size)) Fbig
 room_check w descriptor size = Err Badf
 
 -- the world after bytes are written to a stream that has room for them
@@ -197,7 +194,7 @@ abbrev pub fd_filestat_set_size_call : World → Contents → ℕ → ℕ → Ch
 fd_filestat_set_size_call w m fd size = do
   file ← as_file (descriptor_at w fd)
   base_check (File file) fd_filestat_set_size
-  refuse_if (nat_lt most_file size) Fbig
+  refuse_if (nat_lt MOST_BYTES size) Fbig
   body ← file_body w file
   leaves (with_body w file.path (resized body size)) m
 

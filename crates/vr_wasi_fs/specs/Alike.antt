@@ -6,8 +6,9 @@ use Rattle.vr_base.specs.Rights.{has_bit, fd_filestat_set_size, fd_read, fd_seek
 use Rattle.vr_files.specs.Bodies.{resized, written}
 use Rattle.vr_files.specs.Changes.{Layers, with_file, without_file}
 use Rattle.vr_files.specs.FileMaps.{FileMap, bytes_at}
+use Rattle.vr_files.specs.declared.pages.TheConstants.{MOST_BYTES}
 use Rattle.vr_wasm_num.specs.Memory.{Contents}
-use Rattle.vr_wasi_calls.specs.Calls.{Done, after, argument, count_read, cuts, file_with, left_at, most_file, moved_at, opened_file, opening_check, origin_of, place_from, room_check, size_at, start_of, stat_check, tells_nothing, wants_directory, with_opened, written_at, args_get_call, args_sizes_get_call, environ_sizes_get_call, fd_close_call, fd_fdstat_get_call, fd_filestat_get_call, fd_filestat_set_size_call, fd_prestat_dir_name_call, fd_prestat_get_call, fd_read_call, fd_seek_call, fd_tell_call, fd_write_call, path_filestat_get_call, path_open_call, path_unlink_file_call}
+use Rattle.vr_wasi_calls.specs.Calls.{Done, after, argument, count_read, cuts, file_with, left_at, moved_at, opened_file, opening_check, origin_of, place_from, room_check, size_at, start_of, stat_check, tells_nothing, wants_directory, with_opened, written_at, args_get_call, args_sizes_get_call, environ_sizes_get_call, fd_close_call, fd_fdstat_get_call, fd_filestat_get_call, fd_filestat_set_size_call, fd_prestat_dir_name_call, fd_prestat_get_call, fd_read_call, fd_seek_call, fd_tell_call, fd_write_call, path_filestat_get_call, path_open_call, path_unlink_file_call}
 use Rattle.vr_wasi_calls.specs.Checks.{Checked, refuse_if, or_fault, ◌>>=◌, ◌>>◌}
 use Rattle.vr_wasi_calls.specs.Descriptors.{as_file, base_check, base_of, body_of as file_body, directory_check, free_number, open_at, is_open, preopened_check, stream_at}
 use Rattle.vr_wasi_calls.specs.Paths.{path_in, range_check}
@@ -136,7 +137,7 @@ module _ (w : World) (others : Layers) (is : IsWorld w)
   same_room : (fd : ℕ) (stream : Descriptor) (size : ℕ) → descriptor_at w fd ≡ stream
       → room_check (with_files w others) stream size ≡ room_check w stream size
   same_room fd (File file) size at =
-      ap (λ (body : Checked (List ℕ)). body >>= λ bytes. refuse_if (nat_lt most_file
+      ap (λ (body : Checked (List ℕ)). body >>= λ bytes. refuse_if (nat_lt MOST_BYTES
       (start_of file bytes + size)) Fbig) (same_body fd file at)
   same_room fd Input size at = refl
   same_room fd Closed size at = refl
@@ -274,7 +275,7 @@ module _ (w : World) (others : Layers) (is : IsWorld w)
   same_set_size m fd size =
       same_value SameDone (as_file (descriptor_at w fd)) _ _ (λ file shown.
       same_test SameDone (base_check (File file) fd_filestat_set_size) _ _ (λ _ may.
-      same_test SameDone (refuse_if (nat_lt most_file size) Fbig) _ _ (λ _ few.
+      same_test SameDone (refuse_if (nat_lt MOST_BYTES size) Fbig) _ _ (λ _ few.
       same_by SameDone (file_body w file) (file_body (with_files w others) file) _ _
       (same_body fd file (file_is (descriptor_at w fd) file shown)) (λ body there.
       ends_with (with_body w file.path (resized body size)) (with_file others file.path

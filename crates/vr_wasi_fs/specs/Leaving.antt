@@ -7,6 +7,7 @@ use Rattle.vr_base.specs.Checks.{result_map_err}
 use Rattle.vr_base.specs.Rights.{has_bit, fd_filestat_set_size, fd_read, fd_seek, fd_write, path_create_file, path_filestat_get, path_filestat_set_size, path_open, path_unlink_file, word_on}
 use Rattle.vr_files.specs.Bodies.{resized, written}
 use Rattle.vr_files.specs.FileMaps.{bytes_at}
+use Rattle.vr_files.specs.declared.pages.TheConstants.{MOST_BYTES}
 use Rattle.vr_wasi_abi.specs.Iovecs.{has_buffer, reading}
 use Rattle.vr_wasi_abi.specs.Layouts.{fdstat, filestat, prestat}
 use Rattle.vr_wasi_abi.specs.declared.fault.AbiFault.{AbiFault}
@@ -19,7 +20,7 @@ use Rattle.vr_wasi_calls.proofs.PieceLemmas.{read_there}
 use Rattle.vr_wasi_calls.proofs.ReadLemmas.{part_within, there_in}
 use Rattle.vr_wasi_calls.proofs.RightsLemmas.{opened_grants, opened_is_allowed}
 use Rattle.vr_wasi_calls.proofs.WorldLemmas.{set_is_world}
-use Rattle.vr_wasi_calls.specs.Calls.{Done, argument, count_read, creates, cuts, file_with, left_at, leaves, most_file, moved_at, opened_file, opening_check, origin_of, place_from, room_check, size_at, start_of, stat_check, tells_nothing, wants_directory, wants_new, with_number, with_opened, written_at, args_get_call, fd_close_call, fd_fdstat_get_call, fd_filestat_get_call, fd_filestat_set_size_call, fd_prestat_dir_name_call, fd_prestat_get_call, fd_read_call, fd_seek_call, fd_tell_call, fd_write_call, path_filestat_get_call, path_open_call, path_unlink_file_call}
+use Rattle.vr_wasi_calls.specs.Calls.{Done, argument, count_read, creates, cuts, file_with, left_at, leaves, moved_at, opened_file, opening_check, origin_of, place_from, room_check, size_at, start_of, stat_check, tells_nothing, wants_directory, wants_new, with_number, with_opened, written_at, args_get_call, fd_close_call, fd_fdstat_get_call, fd_filestat_get_call, fd_filestat_set_size_call, fd_prestat_dir_name_call, fd_prestat_get_call, fd_read_call, fd_seek_call, fd_tell_call, fd_write_call, path_filestat_get_call, path_open_call, path_unlink_file_call}
 use Rattle.vr_wasi_calls.specs.Checks.{Checked, refuse_if, or_fault, ◌>>=◌, ◌>>◌}
 use Rattle.vr_wasi_calls.specs.Descriptors.{as_file, base_check, base_of, body_of as file_body, directory_check, file_rights, free_number, is_directory, is_open, open_at, preopened_check, regular_file, stat_of, stream_at, type_of}
 use Rattle.vr_wasi_calls.specs.Paths.{path_in, range_check}
@@ -380,7 +381,7 @@ set_size_leaves : (w : World) (m : Contents) (fd size : ℕ)
 set_size_leaves w m fd size =
     after_value (Leaves w m) (as_file (descriptor_at w fd)) _ (λ file is.
     after_test (Leaves w m) (base_check (File file) fd_filestat_set_size) _ (λ _ may.
-    after_test (Leaves w m) (refuse_if (nat_lt most_file size) Fbig) _ (λ _ few.
+    after_test (Leaves w m) (refuse_if (nat_lt MOST_BYTES size) Fbig) _ (λ _ few.
     after_value (Leaves w m) (file_body w file) _ (λ body there.
     let at : descriptor_at w fd ≡ File file = file_is (descriptor_at w fd) file is in
     passes (record {
