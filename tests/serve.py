@@ -387,18 +387,13 @@ TESTS = [
     statuses,
 ]
 
-
-# Those that ask several workers at once: one serves for now, so that they run where they are named alone.
-ASK_SEVERAL = [silent_beside_busy, sixteen_clients]
 # Those that look into a store, whose tables older versions of SQLite don't know.
 LOOK_INTO_STORES = [store_after_end, options, statuses]
 
 
 def main():
     named = sys.argv[3:]
-    chosen = [test for test in TESTS if (test.__name__ in named if named else test not in ASK_SEVERAL)]
-    if not named:
-        print("serve: one worker serves, so that what asks several is left out:", *(test.__name__ for test in ASK_SEVERAL))
+    chosen = [test for test in TESTS if not named or test.__name__ in named]
     if sqlite3 is None or sqlite3.sqlite_version_info < (3, 37):
         print("serve: Python has no SQLite of version 3.37, so that what looks into stores is skipped")
         chosen = [test for test in chosen if test not in LOOK_INTO_STORES]

@@ -57,7 +57,7 @@ fn make<'a>(alloc: Global) -> Result<Command<'a>, AllocError> {
 }
 
 fn workers<'a>(alloc: Global) -> Arg<'a> {
-    let help = "Seats for workers, from 1 to 16; one serves today";
+    let help = "How many workers serve at once, from 1 to 16";
     option(alloc, "workers", "W", help).default_value("4")
 }
 

@@ -8,7 +8,7 @@ use Rattle.vr_words.specs.declared.commands.Verb.TheVariants as verbs
 use Rattle.vr_words.proofs.Results.{mapped}
 use Rattle.vr_cli.specs.Commands.{commands, IsOurs}
 use Rattle.vr_cli.specs.Endings.{Ends, SaysOver}
-use Rattle.vr_cli.specs.Outputs.{NamedFiles, output_of}
+use Rattle.vr_cli.specs.Outputs.{NamedFiles, files_for, output_of}
 use Rattle.vr_cli.proofs.CountLemmas.{HasSmallCount, small_count}
 use Rattle.vr_cli.proofs.EndingLemmas.{ends_over}
 use Rattle.vr_cli.specs.declared.status.Status.{Status}
@@ -72,9 +72,9 @@ module _ (words : List (List ℕ)) where
 
   -- what is asked for ends as what was done
   pub ends_asked : (files : Option NamedFiles) (answer : Result Task ℕ) (done task : Task) (status : Status) (old new : Option (List ℕ)) → answer ≡ Ok done
-      → ((other : Task) → (answer ≡ Ok other) ↔ AskFor commands other words) → AskFor commands task words → SaysOver files status (output_of done) old new
-      → IfSome files (λ fs. Ends (output_of task fs) status old new)
+      → ((other : Task) → (answer ≡ Ok other) ↔ AskFor commands other words) → AskFor commands task words → SaysOver (files_for done files) status (output_of done) old new
+      → IfSome (files_for task files) (λ fs. Ends (output_of task fs) status old new)
   ends_asked files answer done task status old new e accepted asks says =
       let found : answer ≡ Ok task = (accepted task).1 asks in
       let same : done ≡ task = cc (found, e) in
-      subst (λ (t : Task). IfSome files (λ fs. Ends (output_of t fs) status old new)) same (ends_over files (output_of done) status old new says)
+      subst (λ (t : Task). IfSome (files_for t files) (λ fs. Ends (output_of t fs) status old new)) same (ends_over (files_for done files) (output_of done) status old new says)

@@ -1,5 +1,5 @@
 -- The number that a command line says.
-use Rattle.std.proofs.Common.{◌≡◌, ◌≤◌, ℕ, ◌+◌, Bool, true, false, ◌&&◌, List, [], ◌∷◌, Option, None, Some, inl, inr, refl, ap, ◌∙◌, sym, subst, leb→le, option_map, arith}
+use Rattle.std.proofs.Common.{◌≡◌, ◌≤◌, ℕ, ◌&&◌, List, [], ◌∷◌, Option, Some, inl, inr, ap, subst, option_map, arith}
 use Rattle.std.specs.Prelude.{IfSome, is_none}
 use Rattle.std.specs.Str.Parse.{digits_value}
 use Rattle.vr_words.specs.Grammar.{Item, operand, apart, joined, place_after, take_file, take_operand, take_item, take_items, takes_two}

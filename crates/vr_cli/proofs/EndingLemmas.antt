@@ -1,23 +1,24 @@
 -- How a command ends, from what its parts returned.
-use Rattle.std.proofs.Common.{◌≡◌, ℕ, List, Option, None, Some, Ok, Err, ◌⊎◌, inl, inr, refl, subst, ◌≤◌, arith, lit≤}
+use Rattle.std.proofs.Common.{◌≡◌, ℕ, List, [], Option, None, Some, Ok, Err, ◌⊎◌, inl, inr, refl, subst, ◌≤◌, arith}
 use Rattle.std.specs.Prelude.{IfSome}
 use Rattle.std.specs.Io.KnownBytes.{Keeps}
 use Rattle.vr_base.proofs.Written.{AppendsPrefix-none}
 use Rattle.vr_base.specs.Checks.{◌>>=◌}
 use Rattle.vr_base.specs.Outside.{FolderCounts}
-use Rattle.vr_cli.specs.Endings.{Gives, GivesOver, HasCount, HasReadCause, SaysOf, SaysOver, IsAtMostBegun, IsBeforeText, IsOutside, IsCaused, Ends, HasCauses}
-use Rattle.vr_cli.specs.Statuses.{exit_code}
-use Rattle.vr_cli.specs.Outputs.{Tested, NamedFiles, in_file, origin_under, policy_from, script_in, Output, text, flows_under, replay_of, summary_under, output_of}
+use Rattle.vr_cli.specs.Endings.{Gives, GivesOver, HasCount, HasReadCause, SaysOf, SaysOver, IsAtMostBegun, IsBeforeText, IsOutside, IsCaused, IsRefusal, EndsTask, Ends, around}
+use Rattle.vr_cli.specs.FileWords.{BlamesOnly, IfAbsent, IsFileOf, IsPlaceOf}
+use Rattle.vr_cli.specs.Outputs.{Tested, NamedFiles, in_file, origin_under, policy_from, script_in, Output, text, flows_under, replay_of, summary_under, files_for, output_of, usual_fuel}
 use Rattle.vr_policy_check.specs.Rules.{CheckedData}
 use Rattle.vr_policy_read.specs.Limits.{most_policy}
+use Rattle.vr_generator.specs.Generator.{policy_text, script_text}
 use Rattle.vr_report.specs.Script.{most_script}
 use Rattle.vr_report.specs.declared.script.Line.{Line}
-use Rattle.vr_words.specs.Grammar.{replay}
+use Rattle.vr_words.specs.Grammar.{Task, make, replay}
 use Rattle.vr_words.specs.Options.{Placed}
 use Rattle.vr_cli.specs.declared.status.Status.{Status}
 use Rattle.vr_cli.specs.declared.status.Status.TheVariants.{Usage, PolicyRefused, ScriptRefused, Absent, ReadFault, WriteFault, WantOfMemory, ListenFault, KeeperFault, KeysRefused, StoreRefused}
 use Rattle.vr_cli.specs.declared.status.Status.TheVariants as statuses
-use Rattle.vr_cli.proofs.FileLemmas.{told_more}
+use Rattle.vr_cli.proofs.FileLemmas.{blames_named, told_more}
 use Rattle.vr_cli.proofs.ReplayLemmas.{replay_none}
 
 Keeps-same : (o : Option (List ℕ)) → Keeps o o
@@ -57,11 +58,11 @@ says_before KeeperFault part rest o h = absurd h
 says_before (KeysRefused line) part rest o h = absurd h
 says_before (StoreRefused row) part rest o h = absurd h
 
--- a replay whose policy is refused
-pub policy_says : (files : Option NamedFiles) (fuel : ℕ) (policy script : Placed) (status : Status) (o : Option (List ℕ))
-    → GivesOver {A = CheckedData × List ℕ} files (Err status) (in_file (policy_from most_policy) policy) → SaysOver files status (output_of (replay fuel policy script)) o o
-policy_says None fuel policy script status o h = tt
-policy_says (Some fs) fuel policy script status o h = says_before status (in_file (policy_from most_policy) policy fs) _ o h
+-- what refuses a part of an output refuses the output, where the files are told
+pub part_says : {A : Type 0} (files : Option NamedFiles) (status : Status) (part : NamedFiles → Tested A) (rest : NamedFiles → A → Tested Output) (o : Option (List ℕ))
+    → GivesOver {A = A} files (Err status) part → SaysOver files status (λ fs. part fs >>= rest fs) o o
+part_says None status part rest o h = tt
+part_says (Some fs) status part rest o h = says_before status (part fs) (rest fs) o h
 
 -- a replay whose script is refused
 pub script_says : (files : Option NamedFiles) (fuel : ℕ) (policy script : Placed) (said : CheckedData × List ℕ) (status : Status) (o : Option (List ℕ))
@@ -105,6 +106,61 @@ pub later_cause : {A B : Type 0} (old between new : FolderCounts) (value : B) (r
 later_cause old between new value (Ok x) h k = record { absences = omega (arith, h.absences, k.absences); faults = omega (arith, h.faults, k.faults); counted = tt }
 later_cause old between new value (Err status) h k =
     record { absences = omega (arith, h.absences, k.absences); faults = omega (arith, h.faults, k.faults); counted = later_count status old between new h.absences h.faults k.counted }
+
+-- ---- how a task ends
+
+module _ (task : Task) (files after : Option NamedFiles) (old new : FolderCounts) (written : Option (List ℕ)) (faults : ℕ) where
+  -- memory ran out before anything was written
+  pub ends_starved : after ≡ files → EndsTask task WantOfMemory (around files old written faults) (around after new written faults)
+  ends_starved same = record {
+    same = same;
+    says = nothing_yet (files_for task files) (output_of task) written;
+    caused = tt;
+    quiet = λ quiet. absurd quiet;
+    blamed = tt;
+  }
+
+  -- a file was not read, or what it says is refused
+  pub ends_unread : {A : Type 0} (status : Status) (word : Placed) → after ≡ files → SaysOver (files_for task files) status (output_of task) written written
+      → HasReadCause {A = A} old new (Err status) → IsFileOf task word → BlamesOnly word status
+      → EndsTask task status (around files old written faults) (around after new written faults)
+  ends_unread status word same says cause named blames = record {
+    same = same;
+    says = says;
+    caused = counted_is_caused status old new faults faults cause;
+    quiet = λ _. Keeps-same written;
+    blamed = blames_named status word (IsFileOf task) named blames;
+  }
+
+refusal_is_caused : (status : Status) (counts : FolderCounts) (faults : ℕ) → IsRefusal status → IsCaused status counts counts faults faults
+refusal_is_caused (PolicyRefused stage rule index) counts faults h = tt
+refusal_is_caused (ScriptRefused line) counts faults h = tt
+refusal_is_caused WantOfMemory counts faults h = tt
+refusal_is_caused status counts faults h = absurd h
+
+blames_nobody : (status : Status) (Named : ℕ → Type 0) → IsRefusal status → IfAbsent status Named
+blames_nobody (Absent word) Named h = absurd h
+blames_nobody status Named h = tt
+
+-- the made script is refused under the made policy
+pub made_says : (count : ℕ) (status : Status) (said : CheckedData × List ℕ) (policy_bytes script_bytes : List ℕ) (o : Option (List ℕ)) → policy_bytes ≡ policy_text
+    → script_bytes ≡ script_text count → policy_from most_policy policy_bytes ≡ Ok said → Gives {A = List Line} (Err status) (script_in most_script script_bytes)
+    → SaysOf status (output_of (make count) []) o o
+made_says count status said policy_bytes script_bytes o is_policy is_script read refused =
+    let policy : policy_from most_policy policy_text ≡ Ok said = subst (λ (bytes : List ℕ). policy_from most_policy bytes ≡ Ok said) is_policy read in
+    let script = subst (λ (bytes : List ℕ). Gives {A = List Line} (Err status) (script_in most_script bytes)) is_script refused in
+    rw policy (says_before status (script_in most_script (script_text count)) (λ calls. Ok (summary_under count (origin_under usual_fuel said.0 said.1) calls)) o script)
+
+-- a text that was made is refused
+pub ends_refused : (count : ℕ) (status : Status) (files : Option NamedFiles) (counts : FolderCounts) (written : Option (List ℕ)) (faults : ℕ) → IsRefusal status
+    → SaysOf status (output_of (make count) []) written written → EndsTask (make count) status (around files counts written faults) (around files counts written faults)
+ends_refused count status files counts written faults refusal says = record {
+  same = refl;
+  says = says;
+  caused = refusal_is_caused status counts faults refusal;
+  quiet = λ _. Keeps-same written;
+  blamed = blames_nobody status (IsPlaceOf (IsFileOf (make count))) refusal;
+}
 
 -- ---- what each status of a command says
 
@@ -157,32 +213,6 @@ pub ends_over : (files : Option NamedFiles) (answer : NamedFiles → Tested Outp
 ends_over files answer status old new h =
     told_more files (λ fs. SaysOf status (answer fs) old new) (λ fs. Ends (answer fs) status old new) (λ fs. ends (answer fs) status old new) h
 
--- a status that has a cause is none of a server's
-code_of : (status : Status) (old new : FolderCounts) (before after : ℕ) → IsCaused status old new before after → exit_code status ≤ 7
-code_of statuses.Ok old new before after h = lit≤ tt
-code_of (Usage index) old new before after h = lit≤ tt
-code_of (PolicyRefused stage rule index) old new before after h = lit≤ tt
-code_of (ScriptRefused line) old new before after h = lit≤ tt
-code_of (Absent word) old new before after h = lit≤ tt
-code_of ReadFault old new before after h = lit≤ tt
-code_of WriteFault old new before after h = lit≤ tt
-code_of WantOfMemory old new before after h = lit≤ tt
-code_of ListenFault old new before after h = absurd h
-code_of KeeperFault old new before after h = absurd h
-code_of (KeysRefused line) old new before after h = absurd h
-code_of (StoreRefused row) old new before after h = absurd h
-
-module _ (status : Status) (old new : FolderCounts) (before after : ℕ) (h : IsCaused status old new before after) where
-  caused_as : (named : Status) → status ≡ named → IsCaused named old new before after
-  caused_as named e = subst (λ (s : Status). IsCaused s old new before after) e h
-
-  pub causes : HasCauses status old new before after
-  causes = record {
-    absent = λ word. caused_as (Absent word);
-    read_fault = caused_as ReadFault;
-    write_fault = caused_as WriteFault;
-    code = code_of status old new before after h;
-  }
-
+-- a status that has a cause is none of the words
 pub never_usage : (status : Status) (old new : FolderCounts) (before after : ℕ) → IsCaused status old new before after → (place : ℕ) → status ≡ Usage place → ⊥
-never_usage status old new before after h place e = caused_as status old new before after h (Usage place) e
+never_usage status old new before after h place e = subst (λ (s : Status). IsCaused s old new before after) e h

@@ -9,6 +9,7 @@ use Rattle.vr_cli.specs.Outputs.{Tested, NamedFiles, bytes_named, in_file, polic
 use Rattle.vr_words.specs.Options.{Placed}
 use Rattle.vr_cli.specs.Servings.{keys_in}
 use Rattle.vr_cli.specs.Endings.{told, Gives, GivesOver, HasCount, IsRefusal}
+use Rattle.vr_cli.specs.FileWords.{BlamesOnly, IfAbsent, IsPlaceOf}
 use Rattle.vr_cli.specs.declared.status.Status.{Status}
 use Rattle.vr_cli.specs.declared.status.Status.TheVariants.{PolicyRefused, ScriptRefused, KeysRefused, WantOfMemory, Absent}
 
@@ -50,6 +51,27 @@ counted_refusal status old new h = absurd h
 pub refusal_is_counted : {A : Type 0} (result : Tested A) (old new : FolderCounts) → IfErr result IsRefusal → IfErr result (HasCount old new)
 refusal_is_counted (Ok x) old new h = tt
 refusal_is_counted (Err status) old new h = counted_refusal status old new h
+
+-- ---- the word whose file isn't there
+
+-- a refusal of what was read blames no word
+blames_none : (status : Status) (word : Placed) → IsRefusal status → BlamesOnly word status
+blames_none (Absent place) word h = absurd h
+blames_none status word h = tt
+
+pub refusal_blames_none : {A : Type 0} (result : Tested A) (word : Placed) → IfErr result IsRefusal → IfErr result (BlamesOnly word)
+refusal_blames_none (Ok x) word h = tt
+refusal_blames_none (Err status) word h = blames_none status word h
+
+-- a claim about its place follows from another
+pub absent_more : (status : Status) (P R : ℕ → Type 0) → ((place : ℕ) → P place → R place) → IfAbsent status P → IfAbsent status R
+absent_more (Absent word) P R f h = f word h
+absent_more status P R f h = tt
+
+-- the one word that is blamed is of a kind
+pub blames_named : (status : Status) (word : Placed) (IsNamed : Placed → Type 0) → IsNamed word → BlamesOnly word status → IfAbsent status (IsPlaceOf IsNamed)
+blames_named (Absent place) word IsNamed named same = (word, named, sym same)
+blames_named status word IsNamed named same = tt
 
 -- ---- readings of a file's first bytes, one more than their limit
 

@@ -51,16 +51,6 @@ Gathers-added a b held rest piece h = record { gained = h.gained; written = h.wr
 pub AppendsPrefix-added : (a b : Option (List ℕ)) (held piece : List ℕ) → AppendsPrefix a b ((held ++ piece) ++ []) → AppendsPrefix a b (held ++ piece)
 AppendsPrefix-added a b held piece h = subst (λ (t : List ℕ). AppendsPrefix a b t) (append-nil (held ++ piece)) h
 
-pub HandsIn-added : {E : Type 0} (result : Result (List ℕ) E) (a b : Option (List ℕ)) (held piece : List ℕ)
-    → HandsIn result a b (held ++ piece) [] → HandsIn result a b held piece
-HandsIn-added (Ok rest) a b held piece h = Gathers-added a b held rest piece h
-HandsIn-added (Err e) a b held piece h = AppendsPrefix-added a b held piece h
-
--- an error came, and a prefix was written
-pub Writes-failed : {A E : Type 0} (result : Result A E) (a b : Option (List ℕ)) (text : List ℕ) → IsErr result → AppendsPrefix a b text → Writes result a b text
-Writes-failed (Ok x) a b text failed h = cc
-Writes-failed (Err e) a b text failed h = h
-
 -- Of a whole text all was handed in but for what is left of it.
 pub record Reaches (a b : Option (List ℕ)) (held rest left whole : List ℕ) : Type 0 where
   pub so_far : List ℕ

@@ -2,6 +2,7 @@ pub mod CommandLemmas
 pub mod CountLemmas
 pub mod EndingLemmas
 pub mod FileLemmas
+pub mod FileWordLemmas
 pub mod GatheringLemmas
 pub mod Mapped
 pub mod ReplayLemmas

@@ -1,6 +1,6 @@
 -- What is read of a server's two files.
 use Rattle.std.proofs.Common.{ℕ, List, Option, None, Some, Ok, Err, refl}
-use Rattle.std.specs.Prelude.{IfSome, IfOk}
+use Rattle.std.specs.Prelude.{IfSome, IfErr, IfOk}
 use Rattle.vr_base.specs.Checks.{Tells}
 use Rattle.vr_face.specs.Keys.{Holding, most_keys}
 use Rattle.vr_face.specs.declared.keys.Keys.{Keys}
@@ -8,11 +8,12 @@ use Rattle.vr_policy_check.specs.Rules.{CheckedData, identity_ids}
 use Rattle.vr_policy_read.specs.Limits.{most_policy}
 use Rattle.vr_words.specs.Options.{Placed}
 use Rattle.vr_cli.specs.Endings.{Gives, GivesOver, told}
+use Rattle.vr_cli.specs.FileWords.{BlamesOnly}
 use Rattle.vr_cli.specs.Outputs.{NamedFiles, Tested, in_file, policy_from}
-use Rattle.vr_cli.specs.ServerFiles.{AreSaid, GivesBasis, GivesHeld, IsSaid, told_of_basis}
+use Rattle.vr_cli.specs.ServerFiles.{AreSaid, GivesBasis, GivesHeld, IsKeysRefusal, IsSaid, told_of_basis}
 use Rattle.vr_cli.specs.Servings.{basis_over, keys_in}
 use Rattle.vr_cli.specs.declared.status.Status.{Status}
-use Rattle.vr_cli.specs.declared.status.Status.TheVariants.{KeysRefused}
+use Rattle.vr_cli.specs.declared.status.Status.TheVariants.{Absent, KeysRefused}
 
 -- ---- the keys
 
@@ -26,6 +27,15 @@ pub keys_unread : (files : Option NamedFiles) (ids : List ℕ) (word : Placed) (
     → GivesOver {A = List Holding} files (Err status) (in_file (keys_in ids most_keys) word) → IfSome files (λ fs. GivesHeld (Err status) (in_file (keys_in ids most_keys) word fs))
 keys_unread None ids word status h = tt
 keys_unread (Some fs) ids word status h = told_wider status (in_file (keys_in ids most_keys) word fs) h
+
+-- a refusal of what the file says blames no word
+keys_blame_none : (status : Status) (word : Placed) → IsKeysRefusal status → BlamesOnly word status
+keys_blame_none (Absent place) word h = absurd h
+keys_blame_none status word h = tt
+
+pub refused_keys_blame_none : {A : Type 0} (result : Tested A) (word : Placed) → IfErr result IsKeysRefusal → IfErr result (BlamesOnly word)
+refused_keys_blame_none (Ok keys) word h = tt
+refused_keys_blame_none (Err status) word h = keys_blame_none status word h
 
 -- ---- both files
 

@@ -1,11 +1,12 @@
 -- How a server ends, from what its parts returned.
-use Rattle.std.proofs.Common.{◌≡◌, ℕ, ◌≤◌, ◌++◌, Bool, true, false, List, [], take, Option, None, Some, Result, Ok, Err, inl, inr, refl, sym, ap, ◌∙◌, subst, append-nil, arith}
+use Rattle.std.proofs.Common.{◌≡◌, ℕ, ◌+◌, ◌≤◌, ◌++◌, Bool, true, false, List, [], take, Option, None, Some, Result, Ok, Err, inl, inr, refl, sym, ap, ◌∙◌, subst, append-nil, arith}
 use Rattle.std.specs.Prelude.{IfSome, IfOk, IsOk, OnOk}
 use Rattle.std.specs.Io.KnownBytes.{Appends}
 use Rattle.std.proofs.Math.Logic.{∥∥₁_map}
-use Rattle.std.proofs.lemmas.List.Elements.{All-weaker}
+use Rattle.std.proofs.lemmas.List.Elements.{All-nil, All-weaker}
+use Rattle.std.specs.List.{All}
 use Rattle.vr_base.proofs.Written.{Appends-then, AppendsPrefix-all, AppendsPrefix-more, AppendsPrefix-then}
-use Rattle.vr_base.specs.Causes.{HasCauseOf, Rose}
+use Rattle.vr_base.specs.Causes.{Rose}
 use Rattle.vr_base.specs.Checks.{Tells}
 use Rattle.vr_base.specs.Links.{EndedLink}
 use Rattle.vr_base.specs.Outside.{AppendsPrefix, FolderCounts}
@@ -20,15 +21,13 @@ use Rattle.vr_policy_check.specs.Rules.{CheckedData, identity_ids}
 use Rattle.vr_session.specs.Workers.{AttendsAlone}
 use Rattle.vr_files.specs.FileMaps.{FileMap}
 use Rattle.vr_core.specs.History.{BookState}
-use Rattle.vr_core.specs.Opening.{ComesFromRows}
-use Rattle.vr_core.specs.declared.opening.StartFault.{StartFault}
-use Rattle.vr_core.specs.declared.opening.StartFault.TheVariants as starts
 use Rattle.vr_cli.specs.Faults.{status_for}
+use Rattle.vr_cli.specs.FileWords.{IfAbsent}
 use Rattle.vr_cli.specs.Gathering.{Writes}
 use Rattle.vr_cli.specs.Outputs.{NamedFiles, Tested}
 use Rattle.vr_cli.proofs.EndingLemmas.{unchanged}
 use Rattle.vr_cli.proofs.FileLemmas.{told_more}
-use Rattle.vr_cli.specs.ServerEndings.{EndsUnstarted, IfBook, IsUnder, IsPastReading, SaysOfBasis, IsCounted, OutsideCounts, outside, ServerCauses, NothingFailed, MayStillCome, IsBeforeListening, IsBeforeStart, IsUnstarted, start_status, status_after, WritesUpTo, wants_memory, ServesAlone, IsServedAlone}
+use Rattle.vr_cli.specs.ServerEndings.{HandsOut, EndsUnstarted, IfBook, IsUnder, KeepsCrashes, IsPastReading, SaysOfBasis, IsCounted, OutsideCounts, outside, ServerCauses, NothingFailed, MayStillCome, IsBeforeListening, IsUnstarted, status_at_end, WritesUpTo, wants_memory, ServesAlone, IsServedAlone}
 use Rattle.vr_cli.specs.ServerFiles.{AreBothSaid, AreKeys, IsSaid, GivesBasis, EndsReading, told_of_basis}
 use Rattle.vr_cli.specs.Servings.{Basis}
 use Rattle.vr_cli.specs.declared.kept.Kept.{Kept}
@@ -43,7 +42,7 @@ use Rattle.vr_cli.specs.declared.status.Status.TheVariants as statuses
 
 -- the last lines were written so after sessions that came to this
 pub ends_text : (attended : Result (Unit {0}) AttendFault) (written : Result (Unit {0}) TextFault) (old new : Option (List ℕ)) (text : List ℕ)
-    → Writes written old new text → WritesUpTo (status_after attended written) old new text
+    → Writes written old new text → WritesUpTo (status_at_end attended written) old new text
 ends_text (Err sessions.OutOfMemory) (Ok done) old new text h = prefix_of_all old new text h
   where
     prefix_of_all : (a b : Option (List ℕ)) (xs : List ℕ) → Appends a b xs → AppendsPrefix a b xs
@@ -79,47 +78,11 @@ ends_first texts.OutOfMemory old new first last h = AppendsPrefix-more old new f
 
 -- ---- the statuses of sessions and texts
 
--- all connections were handed out where all was done
-pub done_attended : (attended : Result (Unit {0}) AttendFault) (written : Result (Unit {0}) TextFault) (Claim : Type 0) → OnOk attended Claim → status_after attended written ≡ statuses.Ok → Claim
-done_attended (Ok served) (Ok done) Claim h e = h
-done_attended (Ok served) (Err texts.Failed) Claim h e = cc
-done_attended (Ok served) (Err texts.OutOfMemory) Claim h e = cc
-done_attended (Err sessions.OutOfMemory) written Claim h e = cc
-done_attended (Err sessions.Failed) (Ok done) Claim h e = cc
-done_attended (Err sessions.Failed) (Err texts.Failed) Claim h e = cc
-done_attended (Err sessions.Failed) (Err texts.OutOfMemory) Claim h e = cc
-
--- an accept failed where the status says so
-pub accept_counted : (attended : Result (Unit {0}) AttendFault) (written : Result (Unit {0}) TextFault) (before now : ℕ) → HasCauseOf sessions.Failed before now attended
-    → IsCounted ListenFault (status_after attended written) before now
-accept_counted attended written before now h = record { later = h.later; failed = λ e. h.failed (by_parts attended written e) }
-  where
-    by_parts : (a : Result (Unit {0}) AttendFault) (w : Result (Unit {0}) TextFault) → status_after a w ≡ ListenFault → a ≡ Err sessions.Failed
-    by_parts (Ok served) (Ok done) e = cc
-    by_parts (Ok served) (Err texts.Failed) e = cc
-    by_parts (Ok served) (Err texts.OutOfMemory) e = cc
-    by_parts (Err sessions.OutOfMemory) w e = cc
-    by_parts (Err sessions.Failed) w e = refl
-
--- a write of the last lines failed where the status says so
-pub write_counted : (attended : Result (Unit {0}) AttendFault) (written : Result (Unit {0}) TextFault) (before now : ℕ) → HasCauseOf texts.Failed before now written
-    → IsCounted WriteFault (status_after attended written) before now
-write_counted attended written before now h = record { later = h.later; failed = λ e. h.failed (by_parts attended written e) }
-  where
-    by_parts : (a : Result (Unit {0}) AttendFault) (w : Result (Unit {0}) TextFault) → status_after a w ≡ WriteFault → w ≡ Err texts.Failed
-    by_parts (Ok served) (Ok done) e = cc
-    by_parts (Err sessions.OutOfMemory) (Ok done) e = cc
-    by_parts (Err sessions.Failed) (Ok done) e = cc
-    by_parts a (Err texts.Failed) e = refl
-    by_parts (Ok served) (Err texts.OutOfMemory) e = cc
-    by_parts (Err sessions.OutOfMemory) (Err texts.OutOfMemory) e = cc
-    by_parts (Err sessions.Failed) (Err texts.OutOfMemory) e = cc
-
 -- want of memory in a session is the status
-pub want_after : (attended : Result (Unit {0}) AttendFault) (written : Result (Unit {0}) TextFault) → attended ≡ Err sessions.OutOfMemory → status_after attended written ≡ WantOfMemory
-want_after attended written e = ap (λ (a : Result (Unit {0}) AttendFault). status_after a written) e
+pub want_after : (attended : Result (Unit {0}) AttendFault) (written : Result (Unit {0}) TextFault) → attended ≡ Err sessions.OutOfMemory → status_at_end attended written ≡ WantOfMemory
+want_after attended written e = ap (λ (a : Result (Unit {0}) AttendFault). status_at_end a written) e
 
-want_said : (attended : Result (Unit {0}) AttendFault) (written : Result (Unit {0}) TextFault) → says_want attended ≡ true → wants_memory (status_after attended written) ≡ true
+want_said : (attended : Result (Unit {0}) AttendFault) (written : Result (Unit {0}) TextFault) → says_want attended ≡ true → wants_memory (status_at_end attended written) ≡ true
 want_said (Err sessions.OutOfMemory) written e = refl
 want_said (Err sessions.Failed) written e = cc
 want_said (Ok served) written e = cc
@@ -142,16 +105,16 @@ grows_wider old (Some list) wanted flag f h = record {
 
 -- the connections are served as the status says
 pub served_after : (attended : Result (Unit {0}) AttendFault) (written : Result (Unit {0}) TextFault) (old new : Option (List EndedLink)) → KeepsServed old new (says_want attended)
-    → KeepsServed old new (wants_memory (status_after attended written))
-served_after attended written old new h = ∥∥₁_map h (grows_wider old new (says_want attended) (wants_memory (status_after attended written)) (want_said attended written))
+    → KeepsServed old new (wants_memory (status_at_end attended written))
+served_after attended written old new h = ∥∥₁_map h (grows_wider old new (says_want attended) (wants_memory (status_at_end attended written)) (want_said attended written))
 
 -- one worker served them
 pub alone_after : (attended : Result (Unit {0}) AttendFault) (written : Result (Unit {0}) TextFault) (keys : Keys) (old new : Option (List EndedLink)) (handed_old handed_new before after : ℕ) (journal : List Entry)
-    → IfSome new (λ list. AttendsAlone keys old list handed_old handed_new before after journal attended)
-    → IfSome new (λ list. ServesAlone keys (status_after attended written) old list handed_old handed_new before after journal)
-alone_after attended written keys old None handed_old handed_new before after journal h = tt
-alone_after attended written keys old (Some list) handed_old handed_new before after journal h =
-    record { answer = attended; began = before; since = omega arith; attends = h; memory = want_after attended written }
+    → All (λ e. e.seat ≡ 1) journal → IfSome new (λ list. AttendsAlone keys old list handed_old handed_new before after journal attended)
+    → IfSome new (λ list. ServesAlone keys (status_at_end attended written) old list handed_old handed_new before after journal)
+alone_after attended written keys old None handed_old handed_new before after journal alone h = tt
+alone_after attended written keys old (Some list) handed_old handed_new before after journal alone h =
+    record { answer = attended; began = before; since = omega arith; attends = h; alone = alone; memory = want_after attended written }
 
 -- the keeper's count was lower still before
 pub alone_since : (keys : Keys) (status : Status) (old new : Option (List EndedLink)) (handed_old handed_new before began after : ℕ) (journal : List Entry) → before ≤ began
@@ -159,7 +122,7 @@ pub alone_since : (keys : Keys) (status : Status) (old new : Option (List EndedL
     → IfSome new (λ list. ServesAlone keys status old list handed_old handed_new before after journal)
 alone_since keys status old None handed_old handed_new before began after journal first h = tt
 alone_since keys status old (Some list) handed_old handed_new before began after journal first h =
-    record { answer = h.answer; began = h.began; since = omega (arith, first, h.since); attends = h.attends; memory = h.memory }
+    record { answer = h.answer; began = h.began; since = omega (arith, first, h.since); attends = h.attends; alone = h.alone; memory = h.memory }
 
 -- no connection was handed out
 pub alone_none : (keys : Keys) (status : Status) (old : Option (List EndedLink)) (handed faults : ℕ) (journal : List Entry) → journal ≡ []
@@ -176,8 +139,34 @@ alone_none keys status (Some list) handed faults journal e = record {
     within = omega arith;
     memory = λ no_want. cc (no_want);
   };
+  alone = rw e (All-nil (λ (entry : Entry). entry.seat ≡ 1));
   memory = λ no_answer. cc (no_answer);
 }
+
+-- none was handed out
+pub hands_none : (status : Status) (sessions before after : ℕ) → after ≡ before → (status ≡ statuses.Ok → ⊥) → HandsOut status sessions before after
+hands_none status sessions before after same other = record { most = omega (arith, same); whole = λ e. absurd (other e) }
+
+-- a text that wasn't written ends with no status 0
+pub unwritten : (fault : TextFault) → status_for fault ≡ statuses.Ok → ⊥
+unwritten texts.Failed e = cc (e)
+unwritten texts.OutOfMemory e = cc (e)
+
+-- with status 0 all sessions came to their end
+pub hands_all : (attended : Result (Unit {0}) AttendFault) (written : Result (Unit {0}) TextFault) (most_sessions before after : ℕ) → after ≤ before + most_sessions → OnOk attended (after ≡ before + most_sessions)
+    → HandsOut (status_at_end attended written) most_sessions before after
+hands_all attended written most_sessions before after most whole = record { most = most; whole = by_parts attended written whole }
+  where
+    by_parts : (attended : Result (Unit {0}) AttendFault) (written : Result (Unit {0}) TextFault) → OnOk attended (after ≡ before + most_sessions) → status_at_end attended written ≡ statuses.Ok
+        → after ≡ before + most_sessions
+    by_parts (Ok x) written whole e = whole
+    by_parts (Err sessions.Failed) (Ok x) whole e = absurd (let none : ⊥ = cc (e) in none)
+    by_parts (Err sessions.Failed) (Err fault) whole e = absurd (unwritten fault e)
+    by_parts (Err sessions.OutOfMemory) written whole e = absurd (let none : ⊥ = cc (e) in none)
+
+-- no entries have numbers
+pub none_numbered : (workers : ℕ) (journal : List Entry) → journal ≡ [] → All (λ entry. entry.seat ≤ workers) journal
+none_numbered workers journal e = rw e (All-nil (λ (entry : Entry). entry.seat ≤ workers))
 
 -- ---- counts
 
@@ -188,53 +177,12 @@ counted_later fault status before between now first h =
 
 -- ---- a book that was not started
 
-pub start_begun : (fault : StartFault) → IsPastReading (start_status fault)
-start_begun starts.KeeperFailed = tt
-start_begun (starts.BadRow row) = tt
-start_begun starts.OutOfMemory = tt
-
-refused_row : (fault : StartFault) (row : ℕ) → start_status fault ≡ StoreRefused row → fault ≡ starts.BadRow row
-refused_row starts.KeeperFailed row e = cc
-refused_row (starts.BadRow other) row e = let same : other ≡ row = cc in ap starts.BadRow same
-refused_row starts.OutOfMemory row e = cc
-
-failed_start : (fault : StartFault) → start_status fault ≡ KeeperFault → fault ≡ starts.KeeperFailed
-failed_start starts.KeeperFailed e = refl
-failed_start (starts.BadRow other) e = cc
-failed_start starts.OutOfMemory e = cc
-
-pub start_counted : {A : Type 0} (fault : StartFault) (before now : ℕ) → HasCauseOf {T = A} starts.KeeperFailed before now (Err fault) → IsCounted KeeperFault (start_status fault) before now
-start_counted fault before now h = record { later = h.later; failed = λ e. h.failed (ap Err (failed_start fault e)) }
-
-pub start_ends : {K : Type 0} (rows : K → Option FileMap) (fault : StartFault) (listens : Bool) (o : Option (List ℕ)) (before after : K) → listens ≡ true → rows after ≡ rows before
-    → ((row : ℕ) → fault ≡ starts.BadRow row → ComesFromRows (rows before) (Err (starts.BadRow row)))
-    → EndsUnstarted rows (start_status fault) listens o o before after
-start_ends rows fault listens o before after heard same bad = record {
-  unstarted = by_fault fault;
-  quiet = unchanged o o refl;
-  unasked = λ k. absurd (asked fault k);
-  same = same;
-  refused = λ row e. bad row (refused_row fault row e);
-}
-  where
-    by_fault : (f : StartFault) → IsUnstarted (start_status f) listens
-    by_fault starts.KeeperFailed = heard
-    by_fault (starts.BadRow row) = heard
-    by_fault starts.OutOfMemory = tt
-
-    asked : (f : StartFault) → IsBeforeStart (start_status f) → ⊥
-    asked starts.KeeperFailed k = k
-    asked (starts.BadRow row) k = k
-    asked starts.OutOfMemory k = k
+-- a keeper that wasn't asked keeps its crashes
+pub crashes_kept : {K : Type 0} (tells : K → Bool) (clock : K → ℕ) (may_leave : K → ℕ → FileMap → Type 0) (keeper : K) → KeepsCrashes tells clock may_leave keeper keeper
+crashes_kept tells clock may_leave keeper =
+    record { telling = refl; since = λ _. record { later = omega arith; since = λ map left. left } }
 
 -- ---- a book that was started
-
-pub writes_begun : (status : Status) (old new : Option (List ℕ)) (text : List ℕ) → WritesUpTo status old new text → IsPastReading status
-writes_begun statuses.Ok old new text h = tt
-writes_begun ListenFault old new text h = tt
-writes_begun WriteFault old new text h = tt
-writes_begun WantOfMemory old new text h = tt
-writes_begun status old new text h = absurd h
 
 pub book_counted : (status : Status) (old new : Option (List ℕ)) (text : List ℕ) (before now : ℕ) → WritesUpTo status old new text → before ≤ now → IsCounted KeeperFault status before now
 book_counted status old new text before now h later =
@@ -321,6 +269,10 @@ says_begun ListenFault answer basis e h = (tt, rw e refl)
 says_begun KeeperFault answer basis e h = (tt, rw e refl)
 says_begun (StoreRefused row) answer basis e h = (tt, rw e refl)
 says_begun status answer basis e h = absurd h
+
+pub begun_blames_none : (status : Status) (Named : ℕ → Type 0) → IsPastReading status → IfAbsent status Named
+begun_blames_none (Absent word) Named h = absurd h
+begun_blames_none status Named h = tt
 
 module _ (status : Status) (h : IsPastReading status) where
   begun_as : (named : Status) → status ≡ named → IsPastReading named

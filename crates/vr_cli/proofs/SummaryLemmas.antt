@@ -7,7 +7,6 @@ use Rattle.std.proofs.lemmas.Option.{get_or_from_slice_get, slice_get_within}
 use Rattle.std.specs.Prelude.{◌==◌, count_by, sum_by, slice_get, IfOk}
 use Rattle.vr_base.specs.Calls.{reply_number}
 use Rattle.vr_base.specs.declared.calls.Entry.{Entry}
-use Rattle.vr_base.specs.declared.calls.Reply.{Reply}
 use Rattle.vr_core.specs.History.{replies_of}
 use Rattle.vr_core.specs.Machine.{Origin, Replay}
 use Rattle.vr_digests.specs.Digests.{digits_of}

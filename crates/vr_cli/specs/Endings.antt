@@ -5,8 +5,10 @@ use Rattle.vr_base.specs.Causes.{Rose}
 use Rattle.vr_base.specs.Checks.{Told, nothing, exactly, never, GivesBy}
 use Rattle.vr_base.specs.Outside.{FolderCounts, AppendsPrefix}
 use Rattle.vr_report.specs.Flows.{IsFlowText}
+use Rattle.vr_words.specs.Grammar.{Task}
+use Rattle.vr_cli.specs.FileWords.{IfAbsent, IsFileOf, IsPlaceOf}
 use Rattle.vr_cli.specs.Gathering.{PutsOne, PutsPrefixOfOne}
-use Rattle.vr_cli.specs.Outputs.{Tested, NamedFiles, Output, text, flows_under, replay_of, summary_under}
+use Rattle.vr_cli.specs.Outputs.{Tested, NamedFiles, Output, text, flows_under, replay_of, summary_under, files_for, output_of}
 use Rattle.vr_cli.specs.Replays.{IsReplaySoFar, IsReplayText}
 use Rattle.vr_cli.specs.Statuses.{exit_code}
 use Rattle.vr_cli.specs.Summaries.{IsSummary}
@@ -137,6 +139,33 @@ IsCaused status old new before after = HasCount old new status
 abbrev pub status_of : Result (Unit {0}) Status → Status
 status_of (Ok _) = statuses.Ok
 status_of (Err status) = status
+
+-- ---- how a task ends
+
+-- What surrounds a task, as far as it is told: the folder's files and its counts, and the sink's bytes and its faults.
+pub record Surroundings : Type 0 where
+  pub files : Option NamedFiles
+  pub counts : FolderCounts
+  pub written : Option (List ℕ)
+  pub faults : ℕ
+
+-- these surroundings
+abbrev pub around : Option NamedFiles → FolderCounts → Option (List ℕ) → ℕ → Surroundings
+around files counts written faults =
+    record { files = files; counts = counts; written = written; faults = faults }
+
+-- How a task ended, by what surrounds it before and after.
+pub record EndsTask (task : Task) (status : Status) (old new : Surroundings) : Type 0 where
+  -- the files of the folder stay
+  pub same : new.files ≡ old.files
+  -- what the status says of the task's output over the files, and of what was written
+  pub says : SaysOver (files_for task old.files) status (output_of task) old.written new.written
+  -- what the outside makes comes only where its count rose
+  pub caused : IsCaused status old.counts new.counts old.faults new.faults
+  -- a refusal and a fault of reading leave the sink as it was, whether the folder tells its files or not
+  pub quiet : IsQuiet status → Keeps old.written new.written
+  -- a file that isn't there is one that a word of the task names
+  pub blamed : IfAbsent status (IsPlaceOf (IsFileOf task))
 
 -- ---- how a command ends
 

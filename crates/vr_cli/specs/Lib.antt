@@ -1,6 +1,7 @@
 pub mod Commands
 pub mod Endings
 pub mod Faults
+pub mod FileWords
 pub mod Gathering
 pub mod Outputs
 pub mod Replays

@@ -1,5 +1,5 @@
 -- What a task writes over the files of a folder, or the status of the first check that fails.
-use Rattle.std.specs.Prelude.{ℕ, List, [], ◌∷◌, ◌++◌, Result, Ok, Err, nat_lt, length, codes, decimal}
+use Rattle.std.specs.Prelude.{ℕ, List, [], ◌∷◌, ◌++◌, Option, Some, Result, Ok, Err, nat_lt, length, codes, decimal}
 use Rattle.vr_base.specs.Checks.{◌>>=◌, or_fault, unless_fault, fault_if, result_map_err}
 use Rattle.vr_base.specs.Outside.{file_of}
 use Rattle.vr_base.specs.Signs.{line_feed}
@@ -115,3 +115,8 @@ output_of (make count) files = do
   calls ← script_in most_script (script_text count)
   Ok (summary_under count (origin_under usual_fuel said.0 said.1) calls)
 output_of task files = Err (Usage 0)
+
+-- the files that an output is made of, where they are told: those of the folder, and none for `make`, which reads no file
+abbrev pub files_for : Task → Option NamedFiles → Option NamedFiles
+files_for (make count) files = Some []
+files_for task files = files

@@ -1,5 +1,6 @@
 -- How a server ends: what its status says of its files, its book, its text and the connections that it served.
-use Rattle.std.specs.Prelude.{◌≡◌, ◌⊎◌, ℕ, ◌≤◌, ◌++◌, Bool, true, false, List, Option, IfSome, Result, Ok, Err, IfOk, IsOk}
+use Rattle.std.specs.List.{All}
+use Rattle.std.specs.Prelude.{◌≡◌, ◌⊎◌, ℕ, ◌+◌, ◌≤◌, ◌++◌, Bool, true, false, List, Option, IfSome, Result, Ok, Err, IfOk, IsOk, IsTrue}
 use Rattle.std.specs.Io.KnownBytes.{Appends, Keeps}
 use Rattle.vr_base.specs.Causes.{Rose}
 use Rattle.vr_base.specs.Links.{EndedLink}
@@ -14,6 +15,7 @@ use Rattle.vr_core.specs.declared.opening.StartFault.TheVariants as starts
 use Rattle.vr_face.specs.declared.doors.AttendFault.{AttendFault}
 use Rattle.vr_face.specs.declared.doors.AttendFault.TheVariants as sessions
 use Rattle.vr_face.specs.declared.keys.Keys.{Keys}
+use Rattle.vr_keeper.specs.Crashes.{LoadKeepsCrashes}
 use Rattle.vr_session.specs.Workers.{AttendsAlone}
 use Rattle.vr_words.specs.Grammar.{Serving}
 use Rattle.vr_cli.specs.Faults.{status_for}
@@ -142,10 +144,10 @@ IsUnstarted WantOfMemory listens = Unit {0}
 IsUnstarted status listens = IsBeforeListening status
 
 -- the status of a book that was not started
-abbrev pub start_status : StartFault → Status
-start_status starts.KeeperFailed = KeeperFault
-start_status (starts.BadRow row) = StoreRefused row
-start_status starts.OutOfMemory = WantOfMemory
+abbrev pub status_for_start : StartFault → Status
+status_for_start starts.KeeperFailed = KeeperFault
+status_for_start (starts.BadRow row) = StoreRefused row
+status_for_start starts.OutOfMemory = WantOfMemory
 
 -- How a server ended whose book was not started, by whether its listener listens, what its sink has, and its keeper.
 pub record EndsUnstarted {K : Type 0} (rows : K → Option FileMap) (status : Status)
@@ -160,15 +162,22 @@ pub record EndsUnstarted {K : Type 0} (rows : K → Option FileMap) (status : St
   pub refused : (row : ℕ) → status ≡ StoreRefused row
       → ComesFromRows (rows before) (Err (starts.BadRow row))
 
+-- The keeper tells what a crash may leave if it did before, and that is what a crash could leave before.
+pub record KeepsCrashes {K : Type 0} (tells : K → Bool) (clock : K → ℕ)
+    (may_leave : K → ℕ → FileMap → Type 0) (before after : K) : Type 0 where
+  pub telling : tells after ≡ tells before
+  pub since : IsTrue (tells before)
+      → LoadKeepsCrashes (clock before) (clock after) (may_leave before) (may_leave after)
+
 -- ---- a server whose book was started
 
 -- how a server ends whose sessions came to this and whose last lines were written so: want of memory in a session comes
 -- before a failed write, and that before a connection that wasn't accepted
-abbrev pub status_after : Result (Unit {0}) AttendFault → Result (Unit {0}) TextFault → Status
-status_after (Err sessions.OutOfMemory) written = WantOfMemory
-status_after attended (Err fault) = status_for fault
-status_after (Err sessions.Failed) (Ok done) = ListenFault
-status_after (Ok served) (Ok done) = statuses.Ok
+abbrev pub status_at_end : Result (Unit {0}) AttendFault → Result (Unit {0}) TextFault → Status
+status_at_end (Err sessions.OutOfMemory) written = WantOfMemory
+status_at_end attended (Err fault) = status_for fault
+status_at_end (Err sessions.Failed) (Ok done) = ListenFault
+status_at_end (Ok served) (Ok done) = statuses.Ok
 
 -- How much of its text a server wrote whose book was started: all; or a prefix, where a write failed or memory ran out.
 -- There is no other status.
@@ -194,6 +203,9 @@ pub record EndsStarted {K : Type 0} (rows : K → Option FileMap) (is_loaded : K
   pub legal : IsBook rows is_loaded book
   -- and what each identity was replied depends on no calls but those of which the policy lets it learn
   pub isolated : IsIsolatedHistory book.origin book.journal
+  -- and each call was made at the seat of a worker, or at the first seat, by which the server itself serves what workers
+  -- left
+  pub numbered : All (λ entry. entry.seat ≤ serving.workers) book.journal
 
 -- The first lines were written before any connection was handed out: all of them are there, or there was nobody.
 abbrev pub ComesAfter : Option (List ℕ) → Option (List ℕ) → List ℕ → Type 0 → Type 0
@@ -207,13 +219,19 @@ IsUnder answer book =
 
 -- ---- the connections
 
+-- How many connections were handed out, by the counts before and after: no more than the sessions that are asked for, and
+-- with status 0 all of them.
+pub record HandsOut (status : Status) (sessions before after : ℕ) : Type 0 where
+  pub most : after ≤ before + sessions
+  pub whole : status ≡ statuses.Ok → after ≡ before + sessions
+
 -- whether the status says that memory ran out
 abbrev pub wants_memory : Status → Bool
 wants_memory WantOfMemory = true
 wants_memory status = false
 
 -- One worker served the connections that were handed out, one after the other, to the holders of these keys, gave them
--- back in that order, and the calls of their sessions are, in order, the entries of the worker's seat in the journal. The
+-- back in that order, and the calls of their sessions are, in order, the whole journal, each at the worker's seat. The
 -- counts are the connections that were handed out, and the faults of the keeper, each before and after; those of the
 -- keeper had become some number when the sessions began. Where a session wanted memory the status says so.
 pub record ServesAlone (keys : Keys) (status : Status)
@@ -223,6 +241,7 @@ pub record ServesAlone (keys : Keys) (status : Status)
   pub began : ℕ
   pub since : before ≤ began
   pub attends : AttendsAlone keys old list handed_old handed_new began after journal answer
+  pub alone : All (λ entry. entry.seat ≡ 1) journal
   pub memory : answer ≡ Err sessions.OutOfMemory → status ≡ WantOfMemory
 
 -- The same, by keys that some bytes say under a policy with these ids: those of the keys file, where it is told.

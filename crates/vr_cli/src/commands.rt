@@ -1,10 +1,11 @@
 ghost use Rattle.std.specs.Io.KnownBytes.{Keeps};
-ghost use Rattle.std.specs.Prelude.{◌≡◌, ℕ, ◌↔◌, ◌≤◌, [], map, string_bytes, IfOk, IfSome};
+ghost use Rattle.std.specs.Prelude.{◌≡◌, ℕ, ◌↔◌, ◌≤◌, Option, map, string_bytes, IfOk, IfSome};
 ghost use Rattle.vr_base.specs.Checks.{result_map};
 ghost use Rattle.vr_base.specs.Outside.{FolderCounts};
 ghost use Rattle.vr_cli.specs.Commands.{commands, IsOurs};
-ghost use Rattle.vr_cli.specs.Endings.{Ends, HasCauses, IsCaused, IsQuiet, SaysOf, SaysOver, status_of};
-ghost use Rattle.vr_cli.specs.Outputs.{output_of, counts_line};
+ghost use Rattle.vr_cli.specs.Endings.{Ends, EndsTask, HasCauses, IsQuiet, around, status_of};
+ghost use Rattle.vr_cli.specs.FileWords.{IfAbsent, NamesFile};
+ghost use Rattle.vr_cli.specs.Outputs.{NamedFiles, counts_line, files_for, output_of};
 ghost use Rattle.vr_cli.specs.declared.status.Status.{Status};
 ghost use Rattle.vr_words.specs.Grammar.{Task, AskFor, IsWrongAt, hash, check, flows, replay, make};
 ghost use Rattle.vr_words.specs.Views.{placed, task_of};
@@ -33,12 +34,9 @@ fn hash<F: Folder, O: Sink>(
     folder: &mut F,
     out: &mut O,
 ) -> Result<(), Status>
-    ensures same { F.files folder.new ≡ F.files folder.old }
-    ensures ends { SaysOver (F.files folder.old) (status_of result)
-        (output_of (hash (placed policy.entry))) (O.written out.old) (O.written out.new) }
-    ensures cause { IsCaused (status_of result) (F.counts folder.old) (F.counts folder.new)
-        (O.faults out.old) (O.faults out.new) }
-    ensures quiet { IsQuiet (status_of result) → Keeps (O.written out.old) (O.written out.new) }
+    ensures { EndsTask (hash (placed policy.entry)) (status_of result)
+        (around (F.files folder.old) (F.counts folder.old) (O.written out.old) (O.faults out.old))
+        (around (F.files folder.new) (F.counts folder.new) (O.written out.new) (O.faults out.new)) }
 {
     let digits = load_hash(alloc, folder, policy)?;
     let mut line = [b'\n'; 65];
@@ -55,12 +53,9 @@ fn check<F: Folder, O: Sink>(
     folder: &mut F,
     out: &mut O,
 ) -> Result<(), Status>
-    ensures same { F.files folder.new ≡ F.files folder.old }
-    ensures ends { SaysOver (F.files folder.old) (status_of result)
-        (output_of (check (placed policy.entry))) (O.written out.old) (O.written out.new) }
-    ensures cause { IsCaused (status_of result) (F.counts folder.old) (F.counts folder.new)
-        (O.faults out.old) (O.faults out.new) }
-    ensures quiet { IsQuiet (status_of result) → Keeps (O.written out.old) (O.written out.new) }
+    ensures { EndsTask (check (placed policy.entry)) (status_of result)
+        (around (F.files folder.old) (F.counts folder.old) (O.written out.old) (O.faults out.old))
+        (around (F.files folder.new) (F.counts folder.new) (O.written out.new) (O.faults out.new)) }
 {
     let checked = load_checked(alloc, folder, policy)?;
     let line = counts_line(alloc, checked.policy())?;
@@ -87,12 +82,9 @@ fn flows<F: Folder, O: Sink>(
     folder: &mut F,
     out: &mut O,
 ) -> Result<(), Status>
-    ensures same { F.files folder.new ≡ F.files folder.old }
-    ensures ends { SaysOver (F.files folder.old) (status_of result)
-        (output_of (flows (placed policy.entry))) (O.written out.old) (O.written out.new) }
-    ensures cause { IsCaused (status_of result) (F.counts folder.old) (F.counts folder.new)
-        (O.faults out.old) (O.faults out.new) }
-    ensures quiet { IsQuiet (status_of result) → Keeps (O.written out.old) (O.written out.new) }
+    ensures { EndsTask (flows (placed policy.entry)) (status_of result)
+        (around (F.files folder.old) (F.counts folder.old) (O.written out.old) (O.faults out.old))
+        (around (F.files folder.new) (F.counts folder.new) (O.written out.new) (O.faults out.new)) }
 {
     let checked = load_checked(alloc, folder, policy)?;
     let text = flow_text(alloc, &checked)?;
@@ -110,13 +102,9 @@ fn replay<F: Folder, O: Sink>(
     folder: &mut F,
     out: &mut O,
 ) -> Result<(), Status>
-    ensures same { F.files folder.new ≡ F.files folder.old }
-    ensures ends { SaysOver (F.files folder.old) (status_of result)
-        (output_of (replay fuel (placed policy.entry) (placed script.entry)))
-        (O.written out.old) (O.written out.new) }
-    ensures cause { IsCaused (status_of result) (F.counts folder.old) (F.counts folder.new)
-        (O.faults out.old) (O.faults out.new) }
-    ensures quiet { IsQuiet (status_of result) → Keeps (O.written out.old) (O.written out.new) }
+    ensures { EndsTask (replay fuel (placed policy.entry) (placed script.entry)) (status_of result)
+        (around (F.files folder.old) (F.counts folder.old) (O.written out.old) (O.faults out.old))
+        (around (F.files folder.new) (F.counts folder.new) (O.written out.new) (O.faults out.new)) }
 {
     let (policy, hash) = load_policy(alloc, folder, policy)?;
     let script = load_script(alloc, folder, script)?;
@@ -128,11 +116,10 @@ fn replay<F: Folder, O: Sink>(
 #[tactic(auto, using(crate::proofs::EndingLemmas::unchanged))]
 fn make<O: Sink>(alloc: Global, count: u32, out: &mut O) -> Result<(), Status>
     requires within { count ≤ 1000 }
-    ensures ends { SaysOf (status_of result) (output_of (make count) [])
-        (O.written out.old) (O.written out.new) }
-    ensures cause { (counts : FolderCounts) → IsCaused (status_of result) counts counts
-        (O.faults out.old) (O.faults out.new) }
-    ensures quiet { IsQuiet (status_of result) → Keeps (O.written out.old) (O.written out.new) }
+    ensures { (files : Option NamedFiles) (counts : FolderCounts) →
+        EndsTask (make count) (status_of result)
+        (around files counts (O.written out.old) (O.faults out.old))
+        (around files counts (O.written out.new) (O.faults out.new)) }
 {
     let (policy_bytes, script_bytes) = generate(alloc, count)?;
     let (policy, hash) = parse_policy(alloc, policy_bytes.as_slice())?;
@@ -150,12 +137,9 @@ fn run<F: Folder, O: Sink>(
     out: &mut O,
 ) -> Result<(), Status>
     requires ours { IsOurs (task_of command) }
-    ensures same { F.files folder.new ≡ F.files folder.old }
-    ensures ends { SaysOver (F.files folder.old) (status_of result)
-        (output_of (task_of command.entry)) (O.written out.old) (O.written out.new) }
-    ensures cause { IsCaused (status_of result) (F.counts folder.old) (F.counts folder.new)
-        (O.faults out.old) (O.faults out.new) }
-    ensures quiet { IsQuiet (status_of result) → Keeps (O.written out.old) (O.written out.new) }
+    ensures { EndsTask (task_of command.entry) (status_of result)
+        (around (F.files folder.old) (F.counts folder.old) (O.written out.old) (O.faults out.old))
+        (around (F.files folder.new) (F.counts folder.new) (O.written out.new) (O.faults out.new)) }
 {
     match command {
         Command::Hash { policy } => hash(alloc, policy, folder, out),
@@ -216,14 +200,16 @@ pub fn command<F: Folder, O: Sink>(
     ensures same { F.files folder.new ≡ F.files folder.old }
 
     // The status is a faulty word's exactly where there is one, and where the words ask for a task, the status says of
-    // the output of this task, over the files of the folder, how much of it was written, or why there is none.
+    // the output of this task how much of it was written, or why there is none: over the files of the folder, where it
+    // tells them, and for `make` whether it does or not.
     ensures usage { (place : ℕ) →
         (result ≡ Status.Usage place) ↔ IsWrongAt commands (map string_bytes words.now) place }
     ensures ends { (task : Task) → AskFor commands task (map string_bytes words.now) →
-        IfSome (F.files folder.old) (λ files.
+        IfSome (files_for task (F.files folder.old)) (λ files.
         Ends (output_of task files) result (O.written out.old) (O.written out.new)) }
 
-    // What the outside did.
+    // A file that isn't there is one that a word names, and what the outside did.
+    ensures word { IfAbsent result (NamesFile commands (map string_bytes words.now)) }
     ensures causes { HasCauses result (F.counts folder.old) (F.counts folder.new)
         (O.faults out.old) (O.faults out.new) }
 

@@ -2,6 +2,7 @@ ghost use Rattle.std.specs.Prelude.{◌≡◌, take, IfErr, IfOk};
 ghost use Rattle.vr_base.specs.Checks.{result_map, result_map_err};
 ghost use Rattle.vr_base.specs.Outside.{file_of};
 ghost use Rattle.vr_cli.specs.Endings.{Gives, GivesOver, HasReadCause, IsRefusal};
+ghost use Rattle.vr_cli.specs.FileWords.{BlamesOnly};
 ghost use Rattle.vr_cli.specs.ServerFiles.{IsOfPolicy, IsSaid};
 ghost use Rattle.vr_cli.specs.Outputs.{bytes_named, in_file, checked_from, policy_from, rule_refusal, script_in, digits_from};
 ghost use Rattle.vr_policy_check.specs.Rules.{check_of};
@@ -29,6 +30,7 @@ pub fn read_file<F: Folder>(
     ensures told { GivesOver (F.files folder.old) result (λ files.
         result_map (take most) (bytes_named (placed word.entry) files)) }
     ensures cause { HasReadCause (F.counts folder.old) (F.counts folder.new) result }
+    ensures word { IfErr result (BlamesOnly (placed word.entry)) }
     ensures policy { IfErr result IsOfPolicy }
 {
     match folder.read(alloc, word.text, most) {
@@ -121,7 +123,7 @@ fn hash_policy(bytes: &[u8]) -> Result<[u8; 64], Status>
 }
 
 /// The policy in the file that a word names, checked, and the hash of the file.
-#[tactic(auto, using(crate::proofs::FileLemmas::refusal_is_counted))]
+#[tactic(auto, using(crate::proofs::FileLemmas::refusal_is_counted, crate::proofs::FileLemmas::refusal_blames_none))]
 pub fn load_policy<F: Folder>(
     alloc: Global,
     folder: &mut F,
@@ -131,6 +133,7 @@ pub fn load_policy<F: Folder>(
     ensures told { GivesOver (F.files folder.old) result
         (in_file (policy_from most_policy) (placed word.entry)) }
     ensures cause { HasReadCause (F.counts folder.old) (F.counts folder.new) result }
+    ensures word { IfErr result (BlamesOnly (placed word.entry)) }
     ensures policy { IfErr result IsOfPolicy }
     ensures said { IfOk result IsSaid }
 {
@@ -139,7 +142,7 @@ pub fn load_policy<F: Folder>(
 }
 
 /// The policy in the file that a word names, checked.
-#[tactic(auto, using(crate::proofs::FileLemmas::refusal_is_counted))]
+#[tactic(auto, using(crate::proofs::FileLemmas::refusal_is_counted, crate::proofs::FileLemmas::refusal_blames_none))]
 pub fn load_checked<F: Folder>(
     alloc: Global,
     folder: &mut F,
@@ -149,13 +152,14 @@ pub fn load_checked<F: Folder>(
     ensures told { GivesOver (F.files folder.old) result
         (in_file (checked_from most_policy) (placed word.entry)) }
     ensures cause { HasReadCause (F.counts folder.old) (F.counts folder.new) result }
+    ensures word { IfErr result (BlamesOnly (placed word.entry)) }
 {
     let bytes = read_file(alloc, folder, word, MOST_POLICY + 1)?;
     parse_checked(alloc, bytes.as_slice())
 }
 
 /// The script in the file that a word names.
-#[tactic(auto, using(crate::proofs::FileLemmas::refusal_is_counted))]
+#[tactic(auto, using(crate::proofs::FileLemmas::refusal_is_counted, crate::proofs::FileLemmas::refusal_blames_none))]
 pub fn load_script<F: Folder>(
     alloc: Global,
     folder: &mut F,
@@ -165,13 +169,14 @@ pub fn load_script<F: Folder>(
     ensures told { GivesOver (F.files folder.old) result
         (in_file (script_in most_script) (placed word.entry)) }
     ensures cause { HasReadCause (F.counts folder.old) (F.counts folder.new) result }
+    ensures word { IfErr result (BlamesOnly (placed word.entry)) }
 {
     let bytes = read_file(alloc, folder, word, MOST_SCRIPT + 1)?;
     parse_script(alloc, bytes.as_slice())
 }
 
 /// The hash of the policy file that a word names.
-#[tactic(auto, using(crate::proofs::FileLemmas::refusal_is_counted))]
+#[tactic(auto, using(crate::proofs::FileLemmas::refusal_is_counted, crate::proofs::FileLemmas::refusal_blames_none))]
 pub fn load_hash<F: Folder>(
     alloc: Global,
     folder: &mut F,
@@ -181,6 +186,7 @@ pub fn load_hash<F: Folder>(
     ensures told { GivesOver (F.files folder.old) result
         (in_file (digits_from most_policy) (placed word.entry)) }
     ensures cause { HasReadCause (F.counts folder.old) (F.counts folder.new) result }
+    ensures word { IfErr result (BlamesOnly (placed word.entry)) }
 {
     let bytes = read_file(alloc, folder, word, MOST_POLICY + 1)?;
     hash_policy(bytes.as_slice())

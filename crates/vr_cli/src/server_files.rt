@@ -1,6 +1,7 @@
 ghost use Rattle.std.specs.Prelude.{◌≡◌, IfErr, IfOk, IfSome};
 ghost use Rattle.vr_face.specs.Keys.{most_keys};
 ghost use Rattle.vr_policy_check.specs.Rules.{identity_ids};
+ghost use Rattle.vr_cli.specs.FileWords.{BlamesOnly, IfAbsent, IsEither, IsPlaceOf};
 ghost use Rattle.vr_cli.specs.Outputs.{in_file};
 ghost use Rattle.vr_cli.specs.ServerFiles.{AreBothSaid, AreSaid, GivesBasis, GivesHeld, HasFileCause, IsKeysRefusal};
 ghost use Rattle.vr_cli.specs.Servings.{basis_over, keys_in};
@@ -50,6 +51,7 @@ fn load_keys<F: Folder>(
     ensures told { IfSome (F.files folder.old) (λ files. GivesHeld result
         (in_file (keys_in (identity_ids policy.now) most_keys) (placed word.entry) files)) }
     ensures cause { HasFileCause (F.counts folder.old) (F.counts folder.new) result }
+    ensures word { IfErr result (BlamesOnly (placed word.entry)) }
     ensures said { IfOk result (AreSaid (identity_ids policy.now)) }
 {
     let bytes = read_file(alloc, folder, word, MOST_KEYS + 1)?;
@@ -68,6 +70,8 @@ pub fn load_basis<F: Folder>(
     ensures told { IfSome (F.files folder.old) (λ files. GivesBasis result
         (basis_over (placed policy.entry) (placed keys.entry) files)) }
     ensures cause { HasFileCause (F.counts folder.old) (F.counts folder.new) result }
+    ensures word { IfErr result (λ status.
+        IfAbsent status (IsPlaceOf (IsEither (placed policy.entry) (placed keys.entry)))) }
     ensures said { IfOk result AreBothSaid }
 {
     let (policy, hash) = load_policy(alloc, folder, policy)?;

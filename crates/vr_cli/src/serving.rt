@@ -1,11 +1,13 @@
-ghost use Rattle.std.specs.Prelude.{◌≡◌, ◌↔◌, ◌+◌, ◌≤◌, ◌≢◌, ℕ, [], Ok, Some, length, map, string_bytes, true, IfOk, IfSome, IsOk};
+ghost use Rattle.std.specs.List.{All};
+ghost use Rattle.std.specs.Prelude.{◌≡◌, ◌↔◌, ◌≤◌, ◌≢◌, ℕ, [], Ok, Some, length, map, string_bytes, true, IfOk, IfSome, IsOk};
 ghost use Rattle.vr_base.specs.Checks.{result_map};
 ghost use Rattle.vr_core.specs.History.{IsBook};
 ghost use Rattle.vr_core.specs.Isolation.{IsIsolatedHistory};
 ghost use Rattle.vr_face.specs.Porches.{KeepsServed};
 ghost use Rattle.vr_words.specs.Grammar.{AskFor, IsWrongAt, Serving, Task, serve};
 ghost use Rattle.vr_words.specs.Views.{placed, serving_of};
-ghost use Rattle.vr_cli.specs.ServerEndings.{ComesAfter, EndsStarted, EndsUnstarted, IfBook, IfStore, IsPastReading, IsBeforeListening, MayStillCome, IsCounted, IsServedAlone, IsUnder, NothingFailed, SaysOfBasis, ServerCauses, ServesAlone, WritesUpTo, kept_keeper, outside, wants_memory, start_status, status_after};
+ghost use Rattle.vr_cli.specs.ServerEndings.{ComesAfter, EndsStarted, EndsUnstarted, HandsOut, IfBook, IfStore, IsPastReading, IsBeforeListening, KeepsCrashes, MayStillCome, IsCounted, IsServedAlone, IsUnder, NothingFailed, SaysOfBasis, ServerCauses, ServesAlone, WritesUpTo, kept_keeper, outside, status_at_end, status_for_start, wants_memory};
+ghost use Rattle.vr_cli.specs.FileWords.{IfAbsent, IsFileOf, IsPlaceOf, NamesFile};
 ghost use Rattle.vr_cli.specs.ServerFiles.{IsSaid};
 ghost use Rattle.vr_policy_check.specs.Rules.{identity_ids};
 ghost use Rattle.vr_cli.specs.Servings.{WhereAsked, basis_over, first_lines, last_lines, servers, server_text, task_asked};
@@ -70,7 +72,7 @@ fn parse_serve(words: &[String]) -> Result<Asked<'_>, u32>
 
 /// The status of a book that was not started.
 fn start_status(fault: StartFault) -> Status
-    ensures { result ≡ start_status fault }
+    ensures { result ≡ status_for_start fault }
 {
     match fault {
         StartFault::KeeperFailed => Status::KeeperFault,
@@ -81,7 +83,7 @@ fn start_status(fault: StartFault) -> Status
 
 /// How a server ends whose sessions came to this and whose last lines were written so.
 fn status_after(attended: Result<(), AttendFault>, written: Result<(), TextFault>) -> Status
-    ensures { result ≡ status_after attended written }
+    ensures { result ≡ status_at_end attended written }
 {
     let whole = match attended {
         Ok(()) => Status::Ok,
@@ -98,7 +100,7 @@ fn status_after(attended: Result<(), AttendFault>, written: Result<(), TextFault
 fn run<
     R: Wait + Threads + Sync,
     L: Listener + Send + Drop,
-    K: Keeper,
+    K: Keeper + Send,
     O: Sink,
     G: Gate + Sync + Drop,
 >(
@@ -118,11 +120,12 @@ where
     ensures origin { result.2.origin ≡ book.origin }
     ensures legal { IsBook K.rows K.is_loaded result.2 }
     ensures isolated { IsIsolatedHistory result.2.origin result.2.journal }
+    ensures numbered { All (λ entry. entry.seat ≤ serving.entry.workers) result.2.journal }
     ensures writes { WritesUpTo result.0 (O.written out.old) (O.written out.new)
         (last_lines (length result.2.journal) result.2.files) }
     ensures listens { L.listens result.1 ≡ L.listens listener }
-    ensures count { result.0 ≡ Status.Ok →
-        L.handed_out result.1 ≡ L.handed_out listener + serving.entry.sessions }
+    ensures count { HandsOut result.0 serving.entry.sessions
+        (L.handed_out listener) (L.handed_out result.1) }
     ensures served { KeepsServed (L.ended listener) (L.ended result.1) (wants_memory result.0) }
     ensures alone { serving.entry.workers ≡ 1 → IfSome (L.ended result.1) (λ list.
         ServesAlone keys.now result.0 (L.ended listener) list
@@ -149,7 +152,7 @@ where
 fn report<
     R: Wait + Threads + Sync,
     L: Listener + Send + Drop,
-    K: Keeper,
+    K: Keeper + Send,
     O: Sink,
     G: Gate + Sync + Drop,
 >(
@@ -171,14 +174,15 @@ where
     ensures origin { result.2.origin ≡ book.origin }
     ensures legal { IsBook K.rows K.is_loaded result.2 }
     ensures isolated { IsIsolatedHistory result.2.origin result.2.journal }
+    ensures numbered { All (λ entry. entry.seat ≤ serving.entry.workers) result.2.journal }
     ensures writes { WritesUpTo result.0 (O.written out.old) (O.written out.new)
         (server_text serving.entry.port result.2) }
     ensures first { ComesAfter (O.written out.old) (O.written out.new)
         (first_lines result.2.origin.hash serving.entry.port)
         ((L.handed_out result.1 ≡ L.handed_out listener) × (L.ended result.1 ≡ L.ended listener)) }
     ensures listens { L.listens result.1 ≡ L.listens listener }
-    ensures count { result.0 ≡ Status.Ok →
-        L.handed_out result.1 ≡ L.handed_out listener + serving.entry.sessions }
+    ensures count { HandsOut result.0 serving.entry.sessions
+        (L.handed_out listener) (L.handed_out result.1) }
     ensures served { KeepsServed (L.ended listener) (L.ended result.1) (wants_memory result.0) }
     ensures alone { serving.entry.workers ≡ 1 → IfSome (L.ended result.1) (λ list.
         ServesAlone keys.now result.0 (L.ended listener) list
@@ -200,7 +204,7 @@ where
 fn open<
     R: Wait + Threads + Sync,
     L: Listener + Send + Drop,
-    K: Keeper,
+    K: Keeper + Send,
     O: Sink,
     G: Gate + Sync + Drop,
 >(
@@ -221,6 +225,7 @@ where
     ensures begun { IsPastReading result.0 }
     ensures unstarted { IfStore result.2 (EndsUnstarted K.rows result.0 (L.listens result.1)
         (O.written out.old) (O.written out.new) keeper) }
+    ensures crashes { IfStore result.2 (KeepsCrashes K.tells_crashes K.clock K.may_leave keeper) }
     ensures started { IfBook result.2 (EndsStarted K.rows K.is_loaded (serving_of serving.entry)
         result.0 (L.listens result.1) (O.written out.old) (O.written out.new) keeper) }
     ensures under { IfBook result.2 (λ book.
@@ -231,8 +236,8 @@ where
         (first_lines book.origin.hash serving.entry.port)
         ((L.handed_out result.1 ≡ L.handed_out listener)
         × (L.ended result.1 ≡ L.ended listener))) }
-    ensures count { result.0 ≡ Status.Ok →
-        L.handed_out result.1 ≡ L.handed_out listener + serving.entry.sessions }
+    ensures count { HandsOut result.0 serving.entry.sessions
+        (L.handed_out listener) (L.handed_out result.1) }
     ensures served { KeepsServed (L.ended listener) (L.ended result.1) (wants_memory result.0) }
     ensures alone { serving.entry.workers ≡ 1 → IfSome (L.ended result.1) (λ list.
         IfBook result.2 (λ book. ServesAlone keys.now result.0 (L.ended listener) list
@@ -264,7 +269,7 @@ where
 fn serve_asked<
     R: Wait + Threads + Sync,
     L: Listener + Send + Drop,
-    K: Keeper,
+    K: Keeper + Send,
     F: Folder,
     O: Sink,
     G: Gate + Sync + Drop,
@@ -285,6 +290,7 @@ where
     ensures asked { (place : ℕ) → result.0 ≢ Status.Usage place }
     ensures says { IfSome (F.files folder.old) (λ files. SaysOfBasis result.0
         (basis_over (placed asked.entry.policy) (placed asked.entry.keys) files)) }
+    ensures word { IfAbsent result.0 (IsPlaceOf (IsFileOf (task_asked asked.entry))) }
     ensures causes { ServerCauses result.0
         (outside (F.counts folder.old) (O.faults out.old) (L.faults listener) (K.faults keeper))
         (outside (F.counts folder.new) (O.faults out.new) (L.faults result.1)
@@ -293,6 +299,7 @@ where
         → (result.1 ≡ listener) × (result.2 ≡ Kept.Store keeper) }
     ensures unstarted { IfStore result.2 (EndsUnstarted K.rows result.0 (L.listens result.1)
         (O.written out.old) (O.written out.new) keeper) }
+    ensures crashes { IfStore result.2 (KeepsCrashes K.tells_crashes K.clock K.may_leave keeper) }
     ensures started { IfBook result.2 (EndsStarted K.rows K.is_loaded
         (serving_of asked.entry.serving) result.0 (L.listens result.1)
         (O.written out.old) (O.written out.new) keeper) }
@@ -305,8 +312,8 @@ where
         (first_lines book.origin.hash asked.entry.serving.port)
         ((L.handed_out result.1 ≡ L.handed_out listener)
         × (L.ended result.1 ≡ L.ended listener))) }
-    ensures count { result.0 ≡ Status.Ok →
-        L.handed_out result.1 ≡ L.handed_out listener + asked.entry.serving.sessions }
+    ensures count { HandsOut result.0 asked.entry.serving.sessions
+        (L.handed_out listener) (L.handed_out result.1) }
     ensures served { KeepsServed (L.ended listener) (L.ended result.1) (wants_memory result.0) }
     ensures alone { asked.entry.serving.workers ≡ 1 → IfSome (L.ended result.1) (λ list.
         IfBook result.2 (λ book. IsServedAlone (identity_ids book.origin.policy.policy)
@@ -339,18 +346,18 @@ where
 /// after the program's name; the two files are read from the folder by their names, and the store is the keeper's.
 ///
 /// It listens at the port, starts a book over the store, writes the hash of the policy and the port, and serves the stated
-/// number of connections, one after the other: the workers beside the first aren't made yet. Then it writes how many calls
-/// were made, and a line for each file that is left. The listener comes back, and the keeper, under its book where one was
-/// started.
+/// number of connections. So many workers serve them, each in a thread of its own, one connection after the other; a single
+/// worker serves in this thread. Then it writes how many calls were made, and a line for each file that is left. The
+/// listener comes back, and the keeper, under its book where one was started.
 ///
 /// The checks come in this order, and the first that fails is the status: the words, the policy's file, what it says, the
 /// keys file, what it says, the port, the store. After that, want of memory in a session comes before a failed write, and
 /// that before a connection that was not accepted. What the outside did is named by counts that rise. A fault of a session
-/// ends that session alone. It may wait.
+/// ends that session alone. It may wait, for connections, for the book and for its threads.
 pub fn serve<
     R: Wait + Threads + Sync,
     L: Listener + Send + Drop,
-    K: Keeper,
+    K: Keeper + Send,
     F: Folder,
     O: Sink,
     G: Gate + Sync + Drop,
@@ -377,7 +384,9 @@ where
         IfSome (F.files folder.old) (λ files.
         SaysOfBasis result.0 (basis_over policy keys files))) }
 
-    // What the outside did; and without a refusal and a fault all is done, but for want of memory.
+    // A file that isn't there is one that a word names, and what the outside did; and without a refusal and a fault all
+    // is done, but for want of memory.
+    ensures word { IfAbsent result.0 (NamesFile servers (map string_bytes words.now)) }
     ensures causes { ServerCauses result.0
         (outside (F.counts folder.old) (O.faults out.old) (L.faults listener) (K.faults keeper))
         (outside (F.counts folder.new) (O.faults out.new) (L.faults result.1)
@@ -395,6 +404,7 @@ where
         → (result.1 ≡ listener) × (result.2 ≡ Kept.Store keeper) }
     ensures unstarted { IfStore result.2 (EndsUnstarted K.rows result.0 (L.listens result.1)
         (O.written out.old) (O.written out.new) keeper) }
+    ensures crashes { IfStore result.2 (KeepsCrashes K.tells_crashes K.clock K.may_leave keeper) }
     ensures started { WhereAsked (map string_bytes words.now) (λ serving _ _.
         IfBook result.2 (EndsStarted K.rows K.is_loaded serving result.0 (L.listens result.1)
         (O.written out.old) (O.written out.new) keeper)) }
@@ -413,8 +423,7 @@ where
         ((L.handed_out result.1 ≡ L.handed_out listener)
         × (L.ended result.1 ≡ L.ended listener)))) }
     ensures count { WhereAsked (map string_bytes words.now) (λ serving _ _.
-        result.0 ≡ Status.Ok
-        → L.handed_out result.1 ≡ L.handed_out listener + serving.sessions) }
+        HandsOut result.0 serving.sessions (L.handed_out listener) (L.handed_out result.1)) }
     ensures served { KeepsServed (L.ended listener) (L.ended result.1) (wants_memory result.0) }
     ensures alone { WhereAsked (map string_bytes words.now) (λ serving policy keys.
         serving.workers ≡ 1 → IfSome (L.ended result.1) (λ list.

@@ -2,17 +2,17 @@
 use Rattle.std.proofs.Common.{◌≡◌, ◌≢◌, inl, inr, ℕ, Bool, true, false, List, [], ◌∷◌, ◌++◌, ◌-◌, ◌^◌, ◌<◌, cond, arith, sym, refl, ap, ◌∙◌, subst, append_assoc}
 use Rattle.std.proofs.lemmas.List.{append-nil}
 use Rattle.std.proofs.lemmas.List.Elements.{All-weaker}
-use Rattle.std.specs.List.{Contains}
+use Rattle.std.specs.List.{All, Contains}
 use Rattle.vr_base.specs.Calls.{is_made}
 use Rattle.vr_base.specs.Causes.{Rose}
 use Rattle.vr_base.specs.Desks.{Sees, IsLicensed, own_entries}
 use Rattle.vr_base.specs.declared.calls.Call.{Call}
 use Rattle.vr_base.specs.declared.calls.Entry.{Entry}
 use Rattle.vr_base.specs.declared.calls.Reply.{Reply}
-use Rattle.vr_base.specs.declared.calls.Reply.TheVariants.{Unavailable, OutOfMemory}
+use Rattle.vr_base.specs.declared.calls.Reply.TheVariants.{Unavailable}
 use Rattle.vr_core.specs.Machine.{Origin}
 use Rattle.vr_turn.specs.Accounts.{AddsAtMostOne, Works}
-use Rattle.vr_turn.specs.Rule.{SeesOwn}
+use Rattle.vr_turn.specs.Rule.{HasNone, SeesOwn}
 use Rattle.vr_turn.specs.Seats.{numbers, turned}
 use Rattle.vr_turn.specs.Turns.{TakesTurn}
 use Rattle.vr_turn.specs.declared.views.Knowledge.{Knowledge}
@@ -39,32 +39,42 @@ works_by {K} faults n seat who call old old' new new' reply entries same same_ol
     subst (λ (p : ℕ × SharedBook K × SharedBook K). Works (λ (s : SharedBook K). account_of faults s.book) p.0 p.1 p.2) (λ i. (same i, same_old i, same_new i))
     (call_works faults n who call old new reply entries t)
 
+-- entries with none of a seat's numbers don't have its own
+pub apart_own : (knows : Knowledge) (entries : List Entry) → All (λ e. ¬ (Contains (numbers knows) e.seat)) entries → HasNone knows.number entries
+apart_own knows entries apart =
+    All-weaker (λ e. ¬ (Contains (numbers knows) e.seat)) (λ e. e.seat ≢ knows.number) (λ e other is. other (subst (Contains (numbers knows)) (sym is) (0, omega arith, refl))) entries apart
+
 -- a call as the history that the seat has seen shows it
 pub sees_call : (knows : Knowledge) (who : ℕ) (call : Call) (reply : Reply) (found left : List Entry) → SeesOwn knows found → left ≡ found ++ own_entries knows.number who call reply
     → Sees knows.number who call reply knows.seen left
 sees_call knows who call reply found left sees same = record {
   others = sees.others;
-  apart = All-weaker (λ e. ¬ (Contains (numbers knows) e.seat)) (λ e. e.seat ≢ knows.number) (λ e other is. other (subst (Contains (numbers knows)) (sym is) (0, omega arith, refl))) sees.others sees.apart;
+  apart = apart_own knows sees.others sees.apart;
   history = same ∙ (ap (λ (l : List Entry). l ++ own_entries knows.number who call reply) sees.history ∙ append_assoc knows.seen sees.others (own_entries knows.number who call reply));
 }
 
 -- what a turn that was taken comes to for its seat
 pub asks_by : {K : Type 0} (faults : K → ℕ) (first : SharedBook K) (n who : ℕ) (call : Call) (old new : SharedBook K) (reply : Reply) (entries : ℕ) (does : SharedBook K → SharedBook K → Type 0)
     (before after : Knowledge) (t : TakesTurn (λ (s : SharedBook K). account_of faults s.book) first does before after) → n ≡ before.number → old ≡ t.found → new ≡ t.left
-    → TakesCall faults n who call old.book new.book reply entries → Asks before who call reply after
+    → TakesCall faults n who call old.book new.book reply entries → Asks faults before who call reply after
 asks_by {K} faults first n who call old new reply entries does before after t number same_old same_new takes =
     let journal : t.left.book.journal ≡ t.found.book.journal ++ own_entries before.number who call reply =
     subst (λ (p : ℕ × SharedBook K × SharedBook K). p.2.book.journal ≡ p.1.book.journal ++ own_entries p.0 who call reply) (λ i. (number i, same_old i, same_new i)) takes.journal in
     record {
-      found = t.found.book.journal;
+      history = t.found.book.journal;
       own = t.finds.history;
       seen = ap (λ (k : Knowledge). k.seen) t.knows ∙ journal;
+      found = t.found.book.keeper;
+      found_count = ap (λ (k : Knowledge). k.found) t.knows;
+      left = t.left.book.keeper;
+      left_count = ap (λ (k : Knowledge). k.faults) t.knows;
       same = subst (λ (k : Knowledge). k ≡ turned before k.seen k.faults k.found) (sym t.knows) refl;
     }
 
 -- and to the history that it has seen
-pub sees_asked : (before : Knowledge) (who : ℕ) (call : Call) (reply : Reply) (after : Knowledge) → Asks before who call reply after → Sees before.number who call reply before.seen after.seen
-sees_asked before who call reply after asks = sees_call before who call reply asks.found after.seen asks.own asks.seen
+pub sees_asked : {K : Type 0} (faults : K → ℕ) (before : Knowledge) (who : ℕ) (call : Call) (reply : Reply) (after : Knowledge) → Asks faults before who call reply after
+    → Sees before.number who call reply before.seen after.seen
+sees_asked faults before who call reply after asks = sees_call before who call reply asks.history after.seen asks.own asks.seen
 
 rose_above : (before after : ℕ) → Rose before after → after < 2 ^ 64 - 1 → before < after
 rose_above before after rose short = omega (arith, rose, short)

@@ -1,3 +1,4 @@
 mod Asking
+mod Sending
 mod Seating
 mod Settling

@@ -1,18 +1,19 @@
 -- Seats that are split, that make calls and that are joined.
-use Rattle.std.proofs.Common.{◌≡◌, ◌<◌, ◌≤◌, ◌⊎◌, inl, inr, ⊎_elim, ℕ, zero, suc, ◌+◌, ◌-◌, Bool, true, false, cond, List, [], ◌∷◌, ◌++◌, length, nat_lt, max, arith, refl, sym, ap, ◌∙◌, subst}
-use Rattle.std.proofs.Math.Logic.{∥∥₁_map}
+use Rattle.std.proofs.Common.{◌≡◌, ◌≢◌, ◌<◌, ◌≤◌, ◌⊎◌, inl, inr, ⊎_elim, ℕ, zero, suc, ◌+◌, Bool, true, false, cond, List, [], ◌∷◌, ◌++◌, length, nat_lt, max, arith, refl, sym, ap, ◌∙◌, subst}
 use Rattle.std.proofs.lemmas.Bool.Decides.{nat_tests}
-use Rattle.std.proofs.lemmas.List.Elements.{All-nil, Contains-append_left}
-use Rattle.std.specs.List.{Contains, range_with_len}
+use Rattle.std.proofs.lemmas.List.Elements.{All-nil, All-weaker}
+use Rattle.std.specs.List.{All, Contains}
 use Rattle.std.specs.Prelude.{IsTrue}
 use Rattle.vr_base.specs.Calls.{is_made}
 use Rattle.vr_base.specs.declared.calls.Entry.{Entry}
 use Rattle.vr_core.specs.History.{IsLegal}
 use Rattle.vr_core.specs.Machine.{Origin}
-use Rattle.vr_turn.specs.Seats.{Has, MayGive, all_numbers, first_knowledge, gave, given, joined, longer, numbers, turned}
+use Rattle.vr_turn.specs.Rule.{HasNone, SeesOwn}
+use Rattle.vr_turn.specs.Seats.{Has, MayGive, first_knowledge, gave, given, longer, numbers, turned}
 use Rattle.vr_turn.specs.Turns.{HasAll, IsJoined, SeatState, TurnState}
 use Rattle.vr_turn.specs.declared.views.Knowledge.{Knowledge}
 use Rattle.vr_turn.proofs.Numbers.{other_has, this_has}
+use Rattle.vr_session.proofs.Asking.{apart_own}
 use Rattle.vr_session.specs.Workers.{IsSeatOf, Regains, Stays}
 use Rattle.vr_session.specs.declared.shared_book.SharedBook.{SharedBook}
 
@@ -143,3 +144,29 @@ first_has_all most faults number below = by_zero number below
 
 pub has_all : (most faults : ℕ) (old new : Knowledge) → old ≡ first_knowledge most faults → Regains old new → HasAll most new
 has_all most faults old new is regains number below = regains.has number (subst (λ (k : Knowledge). Has k number) (sym is) (first_has_all most faults number below))
+
+-- ---- the entries that have them
+
+-- a seat that gave a number, had seen nothing, and took another in made none of the entries
+pub made_none : (old left new : Knowledge) → left ≡ gave old → old.seen ≡ [] → SeesOwn left new.seen → HasNone old.number new.seen
+made_none old left new same none sees =
+    let history = sees.history ∙ ap (λ (seen : List Entry). seen ++ sees.others) (ap (λ (k : Knowledge). k.seen) same ∙ none) in
+    rw history (subst (λ (k : Knowledge). HasNone k.number sees.others) same (apart_own left sees.others sees.apart))
+
+-- nobody made any
+pub none_made : (number : ℕ) (knows : Knowledge) → knows.seen ≡ [] → HasNone number knows.seen
+none_made number knows none = rw none (All-nil (λ (e : Entry). e.seat ≢ number))
+
+-- of numbers that are below one more than so many, each is at most so many
+pub numbered_within : (workers most : ℕ) (entries : List Entry) → most ≡ workers + 1 → All (λ e. e.seat < most) entries → All (λ e. e.seat ≤ workers) entries
+numbered_within workers most entries same below = All-weaker (λ e. e.seat < most) (λ e. e.seat ≤ workers) (λ e is. omega (arith, same, is)) entries below
+
+-- of two numbers one is left where the other has none
+pub numbered_alone : (workers none : ℕ) (entries seen : List Entry) → workers ≡ 1 → none ≡ 0 → entries ≡ seen → All (λ e. e.seat ≤ workers) entries → HasNone none seen
+    → All (λ e. e.seat ≡ 1) entries
+numbered_alone workers none entries seen one zeroth same below apart = λ k d within. is_one _ (below k d within) (subst (HasNone none) (sym same) apart k d within)
+  where
+    is_one : (number : ℕ) → number ≤ workers → number ≢ none → number ≡ 1
+    is_one zero low other = absurd (other (sym zeroth))
+    is_one (suc zero) low other = refl
+    is_one (suc (suc n)) low other = absurd (omega (arith, low, one))

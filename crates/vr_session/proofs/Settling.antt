@@ -1,5 +1,5 @@
 -- What all sessions of a porch came to.
-use Rattle.std.proofs.Common.{◌≡◌, ◌≤◌, ◌⊎◌, inl, inr, ⊎_elim, ℕ, ◌+◌, Bool, true, false, List, [], ◌∷◌, ◌++◌, append-nil, Option, None, Some, Result, Ok, Err, refl, sym, ap, ◌∙◌, arith, get_or, subst}
+use Rattle.std.proofs.Common.{◌≡◌, ◌≤◌, inl, inr, ⊎_elim, ℕ, Bool, true, false, List, [], Option, None, Some, Result, Ok, Err, refl, sym, arith, get_or, subst}
 use Rattle.std.specs.Option.{IfSome}
 use Rattle.std.proofs.Math.Logic.{∥∥₁_map}
 use Rattle.vr_base.specs.Links.{EndedLink}

@@ -34,10 +34,15 @@ pub record TakesCall {K : Type 0} (faults : K → ℕ) (seat who : ℕ) (call : 
 
 -- A seat asked: its turn found a history that begins with all that the seat had seen, and in which
 -- no other entry has one of the seat's numbers. It has seen that history and then the call's own
--- entry, where the call was made. Nothing else of what the seat knows changed, but two counts.
-pub record Asks (old : Knowledge) (who : ℕ) (call : Call) (reply : Reply) (new : Knowledge)
-    : Type 0 where
-  pub found : List Entry
-  pub own : SeesOwn old found
-  pub seen : new.seen ≡ found ++ own_entries old.number who call reply
+-- entry, where the call was made. Its two counts are those of the book's keeper, as the turn found
+-- it and left it. Nothing else of what the seat knows changed.
+pub record Asks {K : Type 0} (faults : K → ℕ) (old : Knowledge) (who : ℕ) (call : Call)
+    (reply : Reply) (new : Knowledge) : Type 0 where
+  pub history : List Entry
+  pub own : SeesOwn old history
+  pub seen : new.seen ≡ history ++ own_entries old.number who call reply
+  pub found : K
+  pub found_count : new.found ≡ faults found
+  pub left : K
+  pub left_count : new.faults ≡ faults left
   pub same : new ≡ turned old new.seen new.faults new.found

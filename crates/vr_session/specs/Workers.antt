@@ -8,7 +8,7 @@ use Rattle.vr_face.specs.Doors.{Attends, desk_state, unless_wanted}
 use Rattle.vr_face.specs.declared.doors.AttendFault.{AttendFault}
 use Rattle.vr_face.specs.declared.doors.AttendFault.TheVariants.{Failed, OutOfMemory}
 use Rattle.vr_face.specs.declared.keys.Keys.{Keys}
-use Rattle.vr_turn.specs.Seats.{Has, numbers}
+use Rattle.vr_turn.specs.Seats.{Has}
 use Rattle.vr_turn.specs.Turns.{SeatState, TurnState}
 use Rattle.vr_turn.specs.declared.views.Knowledge.{Knowledge}
 use Rattle.vr_session.specs.declared.shared_book.SharedBook.{SharedBook}

@@ -1,18 +1,20 @@
 //! A book that a listener's connections are served from, by workers, and what comes back of both.
+ghost use Rattle.std.specs.List.{All};
 ghost use Rattle.std.specs.Prelude.{◌≡◌, ◌≤◌, ◌+◌, ◌<◌, true, [], length, Ok, Err, IfSome, OnOk};
 ghost use Rattle.vr_base.specs.Causes.{HasCauseOf, Rose};
 ghost use Rattle.vr_core.specs.History.{IsBook};
 ghost use Rattle.vr_core.specs.Isolation.{IsIsolatedHistory};
 ghost use Rattle.vr_face.specs.Doors.{says_want};
 ghost use Rattle.vr_face.specs.Porches.{KeepsServed};
+ghost use Rattle.vr_turn.specs.Rule.{HasNone};
 ghost use Rattle.vr_session.specs.Workers.{AttendsAlone, IsSeatOf, Regains, joint_answer};
 
 use crate::shared::Shared;
 use crate::shared_book::SharedBook;
-use crate::workers::serve_at;
+use crate::workers::{Worker, serve_at, serve_by_workers};
 use std::alloc::Global;
 use std::marker::Brand;
-use std::sync::Wait;
+use std::sync::{Mutex, Wait};
 use std::thread::Threads;
 use vr_base::{Gate, Listener, NoMemory};
 use vr_core::Book;
@@ -49,6 +51,7 @@ fn settle<L: Listener + Drop, O: Opening>(
     ensures memory { last ≡ Err AttendFault.OutOfMemory
         → result.0 ≡ Err AttendFault.OutOfMemory }
     ensures count { OnOk result.0 (L.handed_out result.1 ≡ O.handed_out + O.left) }
+    ensures most { L.handed_out result.1 ≤ O.handed_out + O.left }
     ensures listens { L.listens result.1 ≡ O.listens }
     ensures served { KeepsServed O.ended (L.ended result.1) (says_want result.0) }
     ensures cause { HasCauseOf AttendFault.Failed O.faults (L.faults result.1) result.0 }
@@ -79,6 +82,7 @@ fn serve_alone<R: Wait, L: Listener + Drop, O: Opening, K: Keeper, G: Gate + Dro
     ensures over { OnOk result.0 (result.1.left ≡ 0) }
     ensures risen { result.0 ≡ Err AttendFault.Failed
         → Rose O.faults (L.faults result.1.listener) }
+    ensures apart { HasNone seat.knows.number result.2.knows.seen }
     ensures alone { IfSome (L.ended result.1.listener) (λ list. AttendsAlone keys.now
         (L.ended porch.listener) list (L.handed_out porch.listener)
         (L.handed_out result.1.listener) seat.knows.faults result.2.knows.faults
@@ -95,12 +99,106 @@ fn serve_alone<R: Wait, L: Listener + Drop, O: Opening, K: Keeper, G: Gate + Dro
     (answer, porch, seat)
 }
 
+/// Serves all that the porch may hand out, by so many workers in threads, and what they leave in
+/// this one, unless one of their sessions wanted memory.
+fn serve_together<
+    R: Threads + Wait + Sync,
+    L: Listener + Send + Drop,
+    O: Opening + Send,
+    K: Keeper + Send,
+    G: Gate + Sync + Drop,
+>(
+    rt: &R,
+    alloc: Global,
+    shared: &Shared<K, G>,
+    keys: &Keys,
+    porch: Porch<L, O>,
+    seat: TurnSeat<SharedBook<K>>,
+    workers: u32,
+    sessions: u32,
+) -> (
+    Result<(), AttendFault>,
+    Porch<L, O>,
+    TurnSeat<SharedBook<K>>,
+)
+where
+    L::Conn: Send,
+    requires seat { IsSeatOf shared.now.turn seat }
+    requires room { seat.knows.next + workers ≤ seat.knows.end }
+    ensures seat { IsSeatOf shared.now.turn result.2 }
+    ensures regains { Regains seat.knows result.2.knows }
+    ensures over { OnOk result.0 (result.1.left ≡ 0) }
+    ensures risen { result.0 ≡ Err AttendFault.Failed
+        → Rose O.faults (L.faults result.1.listener) }
+{
+    let porch = Mutex::new(porch);
+    let worker = Worker {
+        rt,
+        alloc,
+        shared,
+        keys,
+        porch: &porch,
+        sessions,
+    };
+    let seat = serve_by_workers(&worker, seat, workers);
+    let mut porch = porch.into_inner();
+    if porch.wanted() {
+        return (Err(AttendFault::OutOfMemory), porch, seat);
+    }
+    let (answer, seat) = serve_at(rt, alloc, shared, keys, &mut porch, seat);
+    (answer, porch, seat)
+}
+
+/// Serves all that the porch may hand out, by so many workers.
+fn serve_porch<
+    R: Threads + Wait + Sync,
+    L: Listener + Send + Drop,
+    O: Opening + Send,
+    K: Keeper + Send,
+    G: Gate + Sync + Drop,
+>(
+    rt: &R,
+    alloc: Global,
+    shared: &Shared<K, G>,
+    keys: &Keys,
+    porch: Porch<L, O>,
+    seat: TurnSeat<SharedBook<K>>,
+    workers: u32,
+    sessions: u32,
+) -> (
+    Result<(), AttendFault>,
+    Porch<L, O>,
+    TurnSeat<SharedBook<K>>,
+)
+where
+    L::Conn: Send,
+    requires seat { IsSeatOf shared.now.turn seat }
+    requires room { seat.knows.next + workers ≤ seat.knows.end }
+    requires first { (seat.knows.next ≡ 1) × (seat.knows.seen ≡ []) }
+    ensures seat { IsSeatOf shared.now.turn result.2 }
+    ensures regains { Regains seat.knows result.2.knows }
+    ensures over { OnOk result.0 (result.1.left ≡ 0) }
+    ensures risen { result.0 ≡ Err AttendFault.Failed
+        → Rose O.faults (L.faults result.1.listener) }
+    ensures apart { workers ≡ 1 → HasNone seat.knows.number result.2.knows.seen }
+    ensures alone { workers ≡ 1 → IfSome (L.ended result.1.listener) (λ list. AttendsAlone keys.now
+        (L.ended porch.listener) list (L.handed_out porch.listener)
+        (L.handed_out result.1.listener) seat.knows.faults result.2.knows.faults
+        result.2.knows.seen result.0) }
+{
+    if workers == 1 {
+        serve_alone(rt, alloc, shared, keys, porch, seat)
+    } else {
+        serve_together(rt, alloc, shared, keys, porch, seat, workers, sessions)
+    }
+}
+
 /// As `attend_all`, with what the listener told at the opening.
 fn attend_from<
     R: Threads + Wait + Sync,
     L: Listener + Send + Drop,
     O: Opening + Send,
-    K: Keeper,
+    K: Keeper + Send,
     G: Gate + Sync + Drop,
 >(
     rt: &R,
@@ -124,9 +222,12 @@ where
     ensures book { IsBook K.rows K.is_loaded result.2 }
     ensures origin { result.2.origin ≡ book.origin }
     ensures isolated { IsIsolatedHistory result.2.origin result.2.journal }
+    ensures numbered { All (λ entry. entry.seat ≤ workers) result.2.journal }
+    ensures alone { workers ≡ 1 → All (λ entry. entry.seat ≡ 1) result.2.journal }
     ensures keeper { K.faults book.keeper ≤ K.faults result.2.keeper }
     ensures listens { L.listens result.1 ≡ O.listens }
     ensures count { OnOk result.0 (L.handed_out result.1 ≡ O.handed_out + O.left) }
+    ensures most { L.handed_out result.1 ≤ O.handed_out + O.left }
     ensures served { KeepsServed O.ended (L.ended result.1) (says_want result.0) }
     ensures one { workers ≡ 1 → IfSome (L.ended result.1) (λ list. AttendsAlone keys.now
         O.ended list O.handed_out (L.handed_out result.1)
@@ -140,20 +241,21 @@ where
         }
     };
     let porch = Porch::<L, O>::new(listener, sessions);
-    let (last, porch, seat) = serve_alone(rt, alloc, &shared, keys, porch, seat);
+    let (last, porch, seat) = serve_porch(rt, alloc, &shared, keys, porch, seat, workers, sessions);
     let (answer, listener) = settle(porch, last);
     (answer, listener, shared.close(seat))
 }
 
 /// Serves connections of the listener from a book without calls, and gives both back once no
-/// session runs any more. One worker at a seat of its own serves in this thread, one connection
-/// after the other; the turn has seats for as many workers as are asked for, and the others aren't
-/// made yet. After an accept that failed no more are served. If memory runs out before the first
-/// session, none is served. It may wait, for connections and for the book.
+/// session runs any more. So many workers, each at a seat of its own, serve in threads of their
+/// own, with `sessions` connections together; one worker serves in this thread. The work of a
+/// thread that can't be started is done here, and so is what the workers leave, unless a session
+/// wanted memory. After an accept that failed no more are served. If memory runs out before the
+/// first session, none is served. It may wait, for connections, for the book and for its threads.
 pub fn attend_all<
     R: Threads + Wait + Sync,
     L: Listener + Send + Drop,
-    K: Keeper,
+    K: Keeper + Send,
     G: Gate + Sync + Drop,
 >(
     rt: &R,
@@ -172,9 +274,12 @@ where
     ensures book { IsBook K.rows K.is_loaded result.2 }
     ensures origin { result.2.origin ≡ book.origin }
     ensures isolated { IsIsolatedHistory result.2.origin result.2.journal }
+    ensures numbered { All (λ entry. entry.seat ≤ workers) result.2.journal }
+    ensures alone { workers ≡ 1 → All (λ entry. entry.seat ≡ 1) result.2.journal }
     ensures keeper { K.faults book.keeper ≤ K.faults result.2.keeper }
     ensures listens { L.listens result.1 ≡ L.listens listener }
     ensures count { OnOk result.0 (L.handed_out result.1 ≡ L.handed_out listener + sessions) }
+    ensures most { L.handed_out result.1 ≤ L.handed_out listener + sessions }
     ensures served { KeepsServed (L.ended listener) (L.ended result.1) (says_want result.0) }
     ensures one { workers ≡ 1 → IfSome (L.ended result.1) (λ list. AttendsAlone keys.now
         (L.ended listener) list (L.handed_out listener) (L.handed_out result.1)

@@ -3,6 +3,8 @@
 #![tactic(auto)]
 
 mod attending;
+mod beside;
+mod crossing;
 mod locked_door;
 mod shared;
 mod shared_book;

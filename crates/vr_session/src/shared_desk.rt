@@ -80,7 +80,7 @@ impl<'a, R: Wait, K: Keeper, G: Gate> Desk for SharedDesk<'a, R, K, G> {
         ensures seen { Sees self.old.seat.knows.number who call result.0
             self.old.seat.knows.seen self.new.seat.knows.seen }
         ensures front { result.1.entries ≡ length self.new.seat.knows.seen }
-        ensures asks { Asks self.old.seat.knows who call result.0 self.new.seat.knows }
+        ensures asks { Asks K.faults self.old.seat.knows who call result.0 self.new.seat.knows }
         ensures legal { IsLegal self.old.shared.now.turn.first.book.origin
             self.new.seat.knows.seen }
         ensures isolated { IsIsolatedHistory self.old.shared.now.turn.first.book.origin

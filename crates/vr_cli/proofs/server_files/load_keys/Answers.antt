@@ -3,8 +3,9 @@ use Rattle.vr_face.specs.Keys.{most_keys}
 use Rattle.vr_policy_check.specs.Rules.{identity_ids}
 use Rattle.vr_cli.specs.ServerFiles.{GivesHeld}
 use Rattle.vr_cli.specs.Servings.{keys_in}
+use Rattle.vr_words.specs.Views.{placed}
 use Rattle.vr_cli.proofs.FileLemmas.{claim_reading, told_refusal, long_keys}
-use Rattle.vr_cli.proofs.ServerFileLemmas.{keys_said, keys_unread}
+use Rattle.vr_cli.proofs.ServerFileLemmas.{keys_said, keys_unread, refused_keys_blame_none}
 use Rattle.vr_cli.proofs.server_files.load_keys.Goals as goal
 
 pub returns-clause-told : goal.returns-clause-told
@@ -21,3 +22,6 @@ returns-in_err-bytes-clause-told g c =
 
 pub returns-clause-said : goal.returns-clause-said
 returns-clause-said g c = keys_said (identity_ids c.args.policy.now) c.parse_keys.result c.as_slice.result.now c.parse_keys.ensures.answer
+
+pub returns-clause-word : goal.returns-clause-word
+returns-clause-word g c = refused_keys_blame_none c.parse_keys.result (placed c.args.word) c.parse_keys.ensures.refusal

@@ -23,3 +23,6 @@ returns-in-Err-clause-served g c = keeps_none _ _ _ c.listen.ensures.ended
 
 pub returns-in-Ok-clause-first : goal.returns-in-Ok-clause-first
 returns-in-Ok-clause-first g c = rw (c.listen.ensures.handed_out, c.listen.ensures.ended) at c.report-status.ensures.first
+
+pub returns-in-Err-clause-crashes : goal.returns-in-Err-clause-crashes
+returns-in-Err-clause-crashes g c = record { telling = c.in-Err.ensures.tells; since = c.in-Err.ensures.crashes }

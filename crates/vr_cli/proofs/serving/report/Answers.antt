@@ -1,7 +1,7 @@
-use Rattle.std.proofs.Common.{inl, inr, length, refl}
+use Rattle.std.proofs.Common.{◌∙◌, inl, inr, length, refl, sym}
 use Rattle.vr_face.proofs.PorchLemmas.{keeps_none}
 use Rattle.vr_cli.specs.Servings.{first_lines, last_lines}
-use Rattle.vr_cli.proofs.ServerLemmas.{alone_none, ends_after, ends_first, first_there}
+use Rattle.vr_cli.proofs.ServerLemmas.{alone_none, ends_after, ends_first, first_there, hands_none, none_numbered, unwritten}
 use Rattle.vr_cli.proofs.serving.report.Goals as goal
 
 pub returns-in-Ok-clause-writes : goal.returns-in-Ok-clause-writes
@@ -30,3 +30,9 @@ returns-in-Ok-clause-first g c =
 
 pub returns-in-Err-clause-first : goal.returns-in-Err-clause-first
 returns-in-Err-clause-first g c = inr (refl, refl)
+
+pub returns-in-Err-clause-numbered : goal.returns-in-Err-clause-numbered
+returns-in-Err-clause-numbered g c = none_numbered _ _ c.requires.fresh
+
+pub returns-in-Err-clause-count : goal.returns-in-Err-clause-count
+returns-in-Err-clause-count g c = hands_none _ _ _ _ refl (λ e. unwritten c.in-Err.fault (sym c.from.ensures ∙ e))

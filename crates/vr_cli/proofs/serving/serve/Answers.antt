@@ -1,7 +1,9 @@
 use Rattle.std.proofs.Common.{map, refl}
 use Rattle.std.specs.Prelude.{string_bytes}
 use Rattle.vr_face.proofs.PorchLemmas.{keeps_none}
-use Rattle.vr_cli.proofs.ServerLemmas.{complete_over, usage_causes, usage_ends}
+use Rattle.vr_cli.specs.Servings.{servers}
+use Rattle.vr_cli.proofs.FileWordLemmas.{named_asked}
+use Rattle.vr_cli.proofs.ServerLemmas.{complete_over, crashes_kept, usage_causes, usage_ends}
 use Rattle.vr_cli.proofs.ServerWords.{server_no_usage, server_usage, where_asked, where_wrong}
 use Rattle.vr_cli.proofs.serving.serve.Goals as goal
 
@@ -70,3 +72,10 @@ returns-in-Err-clause-unheard g c before = (refl, refl)
 
 pub returns-in-Err-clause-unserved : goal.returns-in-Err-clause-unserved
 returns-in-Err-clause-unserved g c = (refl, refl)
+
+pub returns-in-Ok-clause-word : goal.returns-in-Ok-clause-word
+returns-in-Ok-clause-word g c =
+    named_asked (map string_bytes c.args.words.now) servers _ _ _ refl c.in-Ok.ensures.accepted c.serve_asked.ensures.word
+
+pub returns-in-Err-clause-crashes : goal.returns-in-Err-clause-crashes
+returns-in-Err-clause-crashes g c = crashes_kept _ _ _ c.args.keeper

@@ -1,6 +1,6 @@
 use Rattle.std.proofs.Common.{refl}
 use Rattle.vr_face.proofs.PorchLemmas.{keeps_none}
-use Rattle.vr_cli.proofs.ServerLemmas.{begun_asked, begun_causes, begun_heard, freely, read_alone, read_said, read_says, read_under, unread_asked, unread_causes, unread_done, unread_ends, unread_says}
+use Rattle.vr_cli.proofs.ServerLemmas.{begun_asked, begun_blames_none, begun_causes, begun_heard, crashes_kept, freely, hands_none, read_alone, read_said, read_says, read_under, unread_asked, unread_causes, unread_done, unread_ends, unread_says}
 use Rattle.vr_cli.proofs.serving.serve_asked.Goals as goal
 
 pub returns-in-Ok-clause-asked : goal.returns-in-Ok-clause-asked
@@ -38,7 +38,7 @@ pub returns-in-Err-clause-under : goal.returns-in-Err-clause-under
 returns-in-Err-clause-under g c = freely _
 
 pub returns-in-Err-clause-count : goal.returns-in-Err-clause-count
-returns-in-Err-clause-count g c = unread_done c.in-Err.status _ _ c.in-Err.ensures.cause.counted
+returns-in-Err-clause-count g c = hands_none _ _ _ _ refl (unread_done c.in-Err.status _ _ c.in-Err.ensures.cause.counted)
 
 pub returns-in-Err-clause-served : goal.returns-in-Err-clause-served
 returns-in-Err-clause-served g c = keeps_none _ _ _ refl
@@ -54,3 +54,12 @@ returns-in-Err-clause-unheard g c before = (refl, refl)
 
 pub returns-in-Err-clause-unserved : goal.returns-in-Err-clause-unserved
 returns-in-Err-clause-unserved g c = (refl, refl)
+
+pub returns-in-Ok-clause-word : goal.returns-in-Ok-clause-word
+returns-in-Ok-clause-word g c = begun_blames_none c.open.result.0 _ c.open.ensures.begun
+
+pub returns-in-Err-clause-word : goal.returns-in-Err-clause-word
+returns-in-Err-clause-word g c = c.in-Err.ensures.word
+
+pub returns-in-Err-clause-crashes : goal.returns-in-Err-clause-crashes
+returns-in-Err-clause-crashes g c = crashes_kept _ _ _ c.args.keeper

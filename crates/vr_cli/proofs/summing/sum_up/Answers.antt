@@ -1,4 +1,4 @@
-use Rattle.std.proofs.Common.{ℕ, length, sym, ap}
+use Rattle.std.proofs.Common.{ℕ, sym, ap}
 use Rattle.std.proofs.lemmas.List.{length-map}
 use Rattle.std.specs.FinMap.{len}
 use Rattle.vr_core.specs.History.{replies_of}

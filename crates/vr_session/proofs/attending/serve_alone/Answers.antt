@@ -1,6 +1,6 @@
 use Rattle.std.proofs.Common.{◌∙◌, ap, arith}
 use Rattle.vr_turn.specs.declared.views.Knowledge.{Knowledge}
-use Rattle.vr_session.proofs.Seating.{regains_none, regains_split, seat_gave, seat_given, seat_joined, seat_like}
+use Rattle.vr_session.proofs.Seating.{made_none, none_made, regains_none, regains_split, seat_gave, seat_given, seat_joined, seat_like}
 use Rattle.vr_session.proofs.Settling.{alone_none}
 use Rattle.vr_session.proofs.attending.serve_alone.Goals as goal
 
@@ -28,3 +28,10 @@ pub returns-clause-regains : goal.returns-clause-regains
 returns-clause-regains g c =
     let split = c.in-Ok.ensures.ok in
     regains_split _ _ _ _ _ _ split.2 split.1 (regains_none c.split.new.seat.knows) c.serve_at-answer.ensures.stays c.join.ensures.joins
+
+pub returns-in-Err-clause-apart : goal.returns-in-Err-clause-apart
+returns-in-Err-clause-apart g c = rw c.in-Err.ensures.err (none_made c.args.seat.knows.number c.args.seat.knows c.requires.first.1)
+
+pub returns-clause-apart : goal.returns-clause-apart
+returns-clause-apart g c =
+    made_none c.args.seat.knows c.split.new.seat.knows c.join.new.seat.knows c.in-Ok.ensures.ok.2 c.requires.first.1 c.join.ensures.joins.this_sees

@@ -15,7 +15,7 @@ returns-clause-asks g c =
 pub returns-clause-seen : goal.returns-clause-seen
 returns-clause-seen g c =
     let t = c.with_turn-reply.ensures.took in
-    sees_asked _ _ _ _ _ (asks_by g.K.Keeper.faults _ _ _ _ _ _ _ _ _ _ _ t c.number-number.ensures t.done.shows t.done.leaves t.done.met)
+    sees_asked g.K.Keeper.faults _ _ _ _ _ (asks_by g.K.Keeper.faults _ _ _ _ _ _ _ _ _ _ _ t c.number-number.ensures t.done.shows t.done.leaves t.done.met)
 
 pub returns-clause-legal : goal.returns-clause-legal
 returns-clause-legal g c =
