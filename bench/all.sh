@@ -4,7 +4,7 @@
 #   bench/all.sh [NAME..]
 set -eu
 cd "$(dirname "$0")/.."
-[ $# -gt 0 ] || set -- replay policy flows runs modules interpreter store
+[ $# -gt 0 ] || set -- replay policy flows runs modules interpreter store http
 for name in "$@"; do
     printed=$(mktemp)
     load=$(cut -d ' ' -f 1 /proc/loadavg)

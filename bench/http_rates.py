@@ -46,16 +46,21 @@ def wrk(port, method, connections):
 def row(name, port, method, connections):
     put_once(port, "/files/a")
     rate, half, most, waiting = wrk(port, method, connections)
-    print(f"{name:24} {method:4} {connections:3} {rate:10,.0f} {half:9.3f} {most:9.3f} {waiting:8}", flush=True)
+    waited = f", {waiting} waited" if waiting else ""
+    plural = "s" if connections > 1 else ""
+    print(
+        f"{method} over {connections} connection{plural}, {name}: {rate:,.0f} requests a second, "
+        f"{half:.3f} ms median, {most:.3f} ms 99th percentile{waited}",
+        flush=True,
+    )
 
 
 def rates():
-    print(f"{'server':24} {'':4} {'of':>3} {'a second':>10} {'p50, ms':>9} {'p99, ms':>9} {'waited':>8}")
     for method in ("GET", "PUT"):
         for connections in (1, 4, 16):
             for workers in (1, 4):
                 with place() as here, Vr(PROGRAM, here, "--workers", str(workers)) as server:
-                    row(f"vr, workers {workers}", server.port, method, connections)
+                    row(f"vr with {workers} worker{'s' if workers > 1 else ''}", server.port, method, connections)
             if shutil.which("node"):
                 with place() as here, Node(here) as server:
                     row("node", server.port, method, connections)
@@ -80,7 +85,10 @@ def memory(puts=100_000, files=100, at_once=50):
         found = {name: int(re.search(rf"{name}:\s+([0-9]+) kB", status).group(1)) * 1024 for name in ("VmHWM", "VmRSS")}
         # What has to be kept: each call with its body, and the files.
         holds = puts * len(BODY) + files * len(BODY)
-        print(f"{puts:,} PUTs of {len(BODY)} bytes to {files} files in {seconds:.1f} s: {found['VmRSS'] / 1e6:.0f} MB, at most {found['VmHWM'] / 1e6:.0f} MB, {found['VmHWM'] / holds:.2f} times the bodies")
+        print(
+            f"{puts:,} PUTs of {len(BODY)} bytes to {files} files: {seconds:.1f} s, {found['VmRSS'] / 1e6:.0f} MB in the end, "
+            f"{found['VmHWM'] / 1e6:.0f} MB at most, {found['VmHWM'] / holds:.2f} times the bodies"
+        )
 
 
 if shutil.which("wrk"):

@@ -83,7 +83,7 @@ class Drawing:
 def ticks(most):
     """Four to eight round numbers from 0 on, the last of which is at least the most."""
     step = 10 ** math.floor(math.log10(most))
-    step = next(part for part in (step / 5, step / 2, step) if most / part <= 8)
+    step = next(part for part in (step / 5, step / 2, step, 2 * step) if most / part <= 8)
     return [step * at for at in range(math.ceil(most / step - 1e-9) + 1)]
 
 
@@ -184,7 +184,16 @@ def policies(bench, title):
     curves(bench, title, "MiB of the policy", "seconds of processor time", lines, run, 200)
 
 
+def http():
+    """Requests a second, but where connections waited for a worker that never came."""
+    run, found = readings("http")
+    unit, latest = "requests a second", "ms 99th percentile"
+    rows = [(name, it[unit], f"{it[unit]:,.0f}, {it[latest]:g} ms") for name, it in found.items() if unit in it and "waited" not in it]
+    bars("http", "GETs and PUTs of 1 KiB over connections that are kept", f"{unit}, and the 99th percentile of their latencies", rows, run)
+
+
 DRAWN = {
+    "http": http,
     "interpreter": interpreter,
     "modules": modules,
     "replay": replay,

@@ -58,7 +58,7 @@ class Page:
         if need == "clang":
             return shutil.which("clang") and shutil.which("wasm-ld") and os.path.isdir("/usr/include/wasm32-wasi")
         if need == "rustc":
-            return os.path.isdir("/usr/lib/rustlib/wasm32-wasi")
+            return os.path.isfile("/usr/bin/rustc") and os.path.isdir("/usr/lib/rustlib/wasm32-wasi")
         if need == "serve":
             return self.run([self.vr, "serve"]).stderr.startswith("usage: word 1\n")
         return shutil.which(need)
