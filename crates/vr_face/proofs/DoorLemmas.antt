@@ -1,5 +1,5 @@
 -- Connections that were served one after the other.
-use Rattle.std.proofs.Common.{◌≡◌, ℕ, ◌+◌, ◌||◌, Bool, true, false, List, [], ◌∷◌, ◌++◌, length, map, Option, Some, None, refl, ap, sym, ◌∙◌, subst, arith, append-nil, append_assoc, length-append}
+use Rattle.std.proofs.Common.{◌≡◌, ◌⊎◌, inl, inr, ℕ, ◌+◌, ◌||◌, Bool, true, false, List, [], ◌∷◌, ◌++◌, length, map, Option, Some, None, refl, ap, sym, ◌∙◌, subst, arith, append-nil, append_assoc, length-append}
 use Rattle.std.specs.Option.{IfSome}
 use Rattle.std.specs.Prelude.{option_map}
 use Rattle.std.proofs.lemmas.List.{map-append}
@@ -130,3 +130,14 @@ module _ (keys : Keys) (seat : ℕ) (old mid : Option (List EndedLink)) (handed 
   attends_more (Some list) h given k = more_attended given.first list
       (subst (λ (known : Option (List EndedLink)). IfSome known (λ first. Attends keys seat old first handed counted before between wanted)) given.told h)
       given refl k
+
+-- ---- the end of a door
+
+-- all were handed out, or the door failed
+pub all_over : {A : Type 0} (told : Option A) (Over Failed : Type 0) → IfSome told (λ _. Over) → IfSome told (λ _. Over ⊎ Failed)
+all_over None Over Failed h = tt
+all_over (Some x) Over Failed h = inl h
+
+pub all_failed : {A : Type 0} (told : Option A) (Over Failed : Type 0) → Failed → IfSome told (λ _. Over ⊎ Failed)
+all_failed None Over Failed h = tt
+all_failed (Some x) Over Failed h = inr h

@@ -15,11 +15,9 @@ use Rattle.vr_face.specs.declared.keys.Keys.{Keys}
 use Rattle.vr_face.specs.declared.sessions.SessionEnd.{SessionEnd}
 use Rattle.vr_face.specs.declared.sessions.SessionEnd.TheVariants as ends
 
--- an answer that a request may get is its own, where it has one whoever asks
+-- an answer that a request may get is its own, where it has one whatever the keys are
 own_answer : (keys : Keys) (exchange : Exchange) → MayGet (ask_of keys exchange.request) exchange.answer → IsOwnAnswer exchange
-own_answer keys exchange may own e =
-    let told : ask_of keys exchange.request ≡ Err own = rw e refl in
-    subst (λ (asked : Result Ask Answer). MayGet asked exchange.answer) told may
+own_answer keys exchange may own same = subst (λ (asked : Result Ask Answer). MayGet asked exchange.answer) (same keys) may
 
 own_answers : (keys : Keys) (exchanges : List Exchange) → AreAnswered keys exchanges → All IsOwnAnswer exchanges
 own_answers keys exchanges answered k d below = own_answer keys (get_or exchanges k d) (answered k d below)

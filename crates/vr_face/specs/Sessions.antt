@@ -249,11 +249,10 @@ moment stream written seen faults =
 
 -- ---- the three terms that are said of a connection with an input
 
--- The request's own answer, where it has one whoever asks and whatever the desk replies.
+-- The request's own answer, where it has one whatever the keys are and whatever the desk replies.
 abbrev pub IsOwnAnswer : Exchange → Type 0
 IsOwnAnswer exchange =
-    (own : Answer)
-    → call_of exchange.request.target exchange.request.method exchange.request.body ≡ Err own
+    (own : Answer) → ((keys : Keys) → ask_of keys exchange.request ≡ Err own)
     → exchange.answer ≡ own
 
 -- The responses of a list of answers, one for each request of the input, and last that to bytes

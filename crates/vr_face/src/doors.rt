@@ -1,5 +1,5 @@
-ghost use Rattle.std.specs.Prelude.{◌≡◌, ◌≤◌, ℕ, List, Option, Ok, Some, IfSome, IsSome, OnOk};
-ghost use Rattle.vr_base.specs.Causes.{HasCause, HasCauseOf};
+ghost use Rattle.std.specs.Prelude.{◌≡◌, ◌≤◌, ◌⊎◌, ℕ, List, Option, Ok, Some, IfSome, IsSome, OnOk};
+ghost use Rattle.vr_base.specs.Causes.{HasCause, HasCauseOf, Rose};
 ghost use Rattle.vr_base.specs.Links.{EndedLink, IsFresh, IsGivenBack};
 ghost use Rattle.vr_face.specs.Doors.{Attends, Counts, GivesBack, IsOver, IsServed, Lowers, desk_state, is_want, says_want, unless_wanted};
 
@@ -48,7 +48,7 @@ pub trait Door {
         ensures later { faults self.old ≤ faults self.new };
 }
 
-/// Why not all the connections of a door were served whole.
+/// What kept connections of a door from being served whole, beside the faults of their links.
 #[derive(Clone, Copy, Debug, PartialEq, Eq)]
 pub enum AttendFault {
     /// A session wanted memory. Those after it were served all the same.
@@ -111,6 +111,8 @@ pub fn attend<D: Desk, P: Door>(
         (desk_state (D.seen desk.old) (D.faults desk.old))
         (desk_state (D.seen desk.new) (D.faults desk.new)) (says_want result)) }
     ensures over { OnOk result (IfSome (P.handed_out door.new) (λ _. P.left door.new ≡ 0)) }
+    ensures all { IfSome (P.handed_out door.new) (λ _.
+        (P.left door.new ≡ 0) ⊎ Rose (P.faults door.old) (P.faults door.new)) }
     ensures seat { D.seat desk.new ≡ D.seat desk.old }
     ensures origin { D.origin desk.new ≡ D.origin desk.old }
     ensures cause { HasCauseOf AttendFault.Failed (P.faults door.old) (P.faults door.new) result }

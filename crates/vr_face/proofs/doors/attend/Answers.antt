@@ -1,6 +1,8 @@
-use Rattle.std.proofs.Common.{◌∙◌, arith}
+use Rattle.std.proofs.Common.{rules, ◌≡◌, ◌∙◌, arith}
+use Rattle.std.specs.Option.{IfSome}
+use Rattle.vr_base.specs.Causes.{Rose}
 use Rattle.vr_face.specs.Doors.{desk_state}
-use Rattle.vr_face.proofs.DoorLemmas.{attends_more}
+use Rattle.vr_face.proofs.DoorLemmas.{all_failed, all_over, attends_more}
 use Rattle.vr_face.proofs.doors.attend.Goals as goal
 
 pub loop-conn-preserved : goal.loop-conn-preserved
@@ -21,3 +23,13 @@ loop-conn-preserved g c =
       origin = served.ensures.origin ∙ before.origin;
       later = omega (arith, c.next.ensures.cause.later, served.ensures.later, before.later);
     }
+
+pub returns-in-Ok-None-clause-all : goal.returns-in-Ok-None-clause-all
+returns-in-Ok-None-clause-all g c =
+    let over : IfSome (g.P.Door.handed_out c.next.new.self) (λ _. g.P.Door.left c.next.new.self ≡ 0) = search rules in
+    all_over _ _ _ over
+
+pub returns-in-Err-clause-all : goal.returns-in-Err-clause-all
+returns-in-Err-clause-all g c =
+    let rose : Rose (g.P.Door.faults c.args.door.now) (g.P.Door.faults c.next.new.self) = search rules in
+    all_failed _ _ _ rose
