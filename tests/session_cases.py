@@ -65,9 +65,9 @@ def book(name, calls, files, failing="-", rows=(), stored=None, faulty=None):
         number = next((n for words, n in NUMBERS.items() if reply.startswith(words)), None)
         lines += [f"  seat 0 of {call.split()[0]}: {number}"] if number is not None else []
     first = [f"  {faulty}"] if faulty else lines + told(files)
-    after = ["  stored", f"  {stored}"] if stored else kept(files)
+    last = ["  stored", f"  {stored}"] if stored else kept(files)
     line = f"book {name} | {failing} | {rows_of(rows)} | {'; '.join(call for call, _ in calls) or '-'}"
-    return line, [f"book {name}"] + first + after
+    return line, [f"book {name}"] + first + last
 
 
 # Ten calls of identity 1, and what each makes of the bytes of its file. `/box/` never has more than four bytes.
@@ -94,9 +94,9 @@ def lost_in_turn():
             yield name, "-" if lost is None else lost + 1, CHANGES[:made], lost, files
 
 
-def book_of_changes(name, failing, changes, lost, files):
+def book_of_changes(name, failing, changes, lost_place, files):
     calls = [f"1 {verb} {path} {f'text {body.decode()}' if body else 'empty'}" for verb, path, body in changes]
-    replies = ["unavailable" if place == lost else "done" for place in range(len(calls))]
+    replies = ["unavailable" if place == lost_place else "done" for place in range(len(calls))]
     return book(name, list(zip(calls, replies)), files, failing, [("/in", b"z")])
 
 
@@ -175,7 +175,7 @@ def appends(who, name, body, parts=STORED):
     return asked(who, "POST", f"/files{name}", parts, body)
 
 
-def lost(request):
+def unavailable(request):
     """A request whose change the keeper refuses, so that it has no entry."""
     return Asked(request.stream, text(503, "Service Unavailable", "unavailable"))
 
@@ -228,7 +228,7 @@ def refused_messages():
         yield session(f"cut short, {desk}", [], files, desk=desk, rows=files.items(), end="CutShort", last=cut)
         yield session(f"no route, {desk}", [nowhere, read], files, desk=desk, rows=files.items())
         yield session(f"one write of three is lost, {desk}", [
-            writes(1, "/in", b"a"), lost(writes(1, "/in", b"b")), writes(1, "/in", b"c"), reads(2, "/in", found(b"c")),
+            writes(1, "/in", b"a"), unavailable(writes(1, "/in", b"b")), writes(1, "/in", b"c"), reads(2, "/in", found(b"c")),
         ], {"/in": b"c"}, desk=desk, failing=2)
 
 
@@ -269,9 +269,9 @@ def sessions():
         yield session_of_changes(*case)
 
 
-def session_of_changes(name, failing, changes, place, files):
+def session_of_changes(name, failing, changes, lost_place, files):
     made = [(writes if verb == "write" else appends)(1, path, body) for verb, path, body in changes]
-    requests = [lost(request) if number == place else request for number, request in enumerate(made)]
+    requests = [unavailable(request) if place == lost_place else request for place, request in enumerate(made)]
     return session(name, requests, files, desk="listened", failing=failing, rows=[("/in", b"z")])
 
 

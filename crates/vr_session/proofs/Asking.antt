@@ -1,5 +1,5 @@
 -- What a call of a shared book comes to for its seat.
-use Rattle.std.proofs.Common.{◌≡◌, ◌≢◌, inl, inr, ℕ, Bool, true, false, List, [], ◌∷◌, ◌++◌, ◌-◌, ◌^◌, ◌<◌, cond, arith, sym, refl, ap, ◌∙◌, subst, append_assoc}
+use Rattle.std.proofs.Common.{◌≡◌, ◌≢◌, inl, inr, ℕ, Bool, true, false, List, [], ◌∷◌, ◌++◌, ◌-◌, ◌^◌, ◌<◌, cond, arith, sym, refl, ap, ◌∙◌, length, subst, append_assoc}
 use Rattle.std.proofs.lemmas.List.{append-nil}
 use Rattle.std.proofs.lemmas.List.Elements.{All-weaker}
 use Rattle.std.specs.List.{All, Contains}
@@ -56,25 +56,27 @@ sees_call knows who call reply found left sees same = record {
 -- what a turn that was taken comes to for its seat
 pub asks_by : {K : Type 0} (faults : K → ℕ) (first : SharedBook K) (n who : ℕ) (call : Call) (old new : SharedBook K) (reply : Reply) (entries : ℕ) (does : SharedBook K → SharedBook K → Type 0)
     (before after : Knowledge) (t : TakesTurn (λ (s : SharedBook K). account_of faults s.book) first does before after) → n ≡ before.number → old ≡ t.found → new ≡ t.left
-    → TakesCall faults n who call old.book new.book reply entries → Asks faults before who call reply after
+    → TakesCall faults n who call old.book new.book reply entries → Asks faults first.book.origin before who call reply after
 asks_by {K} faults first n who call old new reply entries does before after t number same_old same_new takes =
-    let journal : t.left.book.journal ≡ t.found.book.journal ++ own_entries before.number who call reply =
-    subst (λ (p : ℕ × SharedBook K × SharedBook K). p.2.book.journal ≡ p.1.book.journal ++ own_entries p.0 who call reply) (λ i. (number i, same_old i, same_new i)) takes.journal in
+    let seen : after.seen ≡ t.left.book.journal = ap (λ (k : Knowledge). k.seen) t.knows in
+    let taken : TakesCall faults before.number who call t.found.book t.left.book reply entries =
+    subst (λ (p : ℕ × SharedBook K × SharedBook K). TakesCall faults p.0 who call p.1.book p.2.book reply entries) (λ i. (number i, same_old i, same_new i)) takes in
     record {
-      history = t.found.book.journal;
+      found = t.found.book;
+      left = t.left.book;
+      one = t.finds.origin;
       own = t.finds.history;
-      seen = ap (λ (k : Knowledge). k.seen) t.knows ∙ journal;
-      found = t.found.book.keeper;
+      takes = subst (λ (n : ℕ). TakesCall faults before.number who call t.found.book t.left.book reply n) (taken.counted ∙ ap (λ (l : List Entry). length l) (sym seen)) taken;
+      seen = seen;
       found_count = ap (λ (k : Knowledge). k.found) t.knows;
-      left = t.left.book.keeper;
       left_count = ap (λ (k : Knowledge). k.faults) t.knows;
       same = subst (λ (k : Knowledge). k ≡ turned before k.seen k.faults k.found) (sym t.knows) refl;
     }
 
 -- and to the history that it has seen
-pub sees_asked : {K : Type 0} (faults : K → ℕ) (before : Knowledge) (who : ℕ) (call : Call) (reply : Reply) (after : Knowledge) → Asks faults before who call reply after
-    → Sees before.number who call reply before.seen after.seen
-sees_asked faults before who call reply after asks = sees_call before who call reply asks.history after.seen asks.own asks.seen
+pub sees_asked : {K : Type 0} (faults : K → ℕ) (origin : Origin) (before : Knowledge) (who : ℕ) (call : Call) (reply : Reply) (after : Knowledge)
+    → Asks faults origin before who call reply after → Sees before.number who call reply before.seen after.seen
+sees_asked faults origin before who call reply after asks = sees_call before who call reply asks.found.journal after.seen asks.own (asks.seen ∙ asks.takes.journal)
 
 rose_above : (before after : ℕ) → Rose before after → after < 2 ^ 64 - 1 → before < after
 rose_above before after rose short = omega (arith, rose, short)

@@ -1,4 +1,4 @@
 mod Asking
 mod Sending
-mod Seating
+pub mod Seating
 mod Settling

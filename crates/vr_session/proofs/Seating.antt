@@ -7,6 +7,7 @@ use Rattle.std.specs.Prelude.{IsTrue}
 use Rattle.vr_base.specs.Calls.{is_made}
 use Rattle.vr_base.specs.declared.calls.Entry.{Entry}
 use Rattle.vr_core.specs.History.{IsLegal}
+use Rattle.vr_core.specs.Isolation.{IsIsolatedHistory}
 use Rattle.vr_core.specs.Machine.{Origin}
 use Rattle.vr_turn.specs.Rule.{HasNone, SeesOwn}
 use Rattle.vr_turn.specs.Seats.{Has, MayGive, first_knowledge, gave, given, longer, numbers, turned}
@@ -30,6 +31,17 @@ legal_either origin false this other h k = h
 pub legal_longer : (origin : Origin) (this other : List Entry) → ∥ IsLegal origin this ∥₁ → ∥ IsLegal origin other ∥₁ → ∥ IsLegal origin (longer this other) ∥₁
 legal_longer origin this other h k = legal_either origin (nat_lt (length this) (length other)) this other h k
 
+-- and isolated
+pub isolated_none : (origin : Origin) → IsIsolatedHistory origin []
+isolated_none origin caller ids regions closed opening replay agree h = refl
+
+isolated_either : (origin : Origin) (b : Bool) (this other : List Entry) → IsIsolatedHistory origin this → IsIsolatedHistory origin other → IsIsolatedHistory origin (cond b other this)
+isolated_either origin true this other h k = k
+isolated_either origin false this other h k = h
+
+isolated_longer : (origin : Origin) (this other : List Entry) → IsIsolatedHistory origin this → IsIsolatedHistory origin other → IsIsolatedHistory origin (longer this other)
+isolated_longer origin this other h k = isolated_either origin (nat_lt (length this) (length other)) this other h k
+
 -- the longer of no calls and some
 pub longer_none : (other : List Entry) → longer [] other ≡ other
 longer_none other = by_test (nat_lt 0 (length other)) refl
@@ -48,6 +60,7 @@ module _ {K : Type 0} (turn : TurnState (SharedBook K)) where
   first_seat seat most faults same knows = record {
     here = same;
     legal = ∣ rw knows (legal_none turn.first.book.origin) ∣₁;
+    isolated = rw knows (isolated_none turn.first.book.origin);
   }
 
   -- a seat of the same turn that has seen as much
@@ -55,6 +68,7 @@ module _ {K : Type 0} (turn : TurnState (SharedBook K)) where
   seat_like old new is same seen = record {
     here = same ∙ is.here;
     legal = rw seen is.legal;
+    isolated = rw seen is.isolated;
   }
 
   -- a seat that was split off, and the one that it was split off from
@@ -70,6 +84,7 @@ module _ {K : Type 0} (turn : TurnState (SharedBook K)) where
   seat_joined this other new is is_other same joins = record {
     here = same ∙ is.here;
     legal = rw (ap (λ (k : Knowledge). k.seen) joins.knows) (legal_longer turn.first.book.origin this.knows.seen other.knows.seen is.legal is_other.legal);
+    isolated = rw (ap (λ (k : Knowledge). k.seen) joins.knows) (isolated_longer turn.first.book.origin this.knows.seen other.knows.seen is.isolated is_other.isolated);
   }
 
 -- the same turn

@@ -1,9 +1,8 @@
 -- A book as its turn sees it, and what a call from a seat does to it.
-use Rattle.std.specs.Prelude.{◌≡◌, ◌≤◌, ℕ, List, ◌++◌, length}
+use Rattle.std.specs.Prelude.{◌≡◌, ◌≤◌, ℕ, ◌++◌, length}
 use Rattle.vr_base.specs.Causes.{Rose}
 use Rattle.vr_base.specs.Desks.{own_entries}
 use Rattle.vr_base.specs.declared.calls.Call.{Call}
-use Rattle.vr_base.specs.declared.calls.Entry.{Entry}
 use Rattle.vr_base.specs.declared.calls.Reply.{Reply}
 use Rattle.vr_base.specs.declared.calls.Reply.TheVariants.{Unavailable}
 use Rattle.vr_core.specs.History.{BookState, IsLegal}
@@ -32,17 +31,18 @@ pub record TakesCall {K : Type 0} (faults : K → ℕ) (seat who : ℕ) (call : 
   pub later : faults old.keeper ≤ faults new.keeper
   pub unkept : reply ≡ Unavailable → Rose (faults old.keeper) (faults new.keeper)
 
--- A seat asked: its turn found a history that begins with all that the seat had seen, and in which
--- no other entry has one of the seat's numbers. It has seen that history and then the call's own
--- entry, where the call was made. Its two counts are those of the book's keeper, as the turn found
--- it and left it. Nothing else of what the seat knows changed.
-pub record Asks {K : Type 0} (faults : K → ℕ) (old : Knowledge) (who : ℕ) (call : Call)
-    (reply : Reply) (new : Knowledge) : Type 0 where
-  pub history : List Entry
-  pub own : SeesOwn old history
-  pub seen : new.seen ≡ history ++ own_entries old.number who call reply
-  pub found : K
-  pub found_count : new.found ≡ faults found
-  pub left : K
-  pub left_count : new.faults ≡ faults left
+-- A seat asked: its turn found the one book, whose journal begins with all that the seat had seen
+-- and has no other entry with one of the seat's numbers; and the book took the call. The seat has
+-- seen the journal that its turn left, and its two counts are those of the book's keeper, as the
+-- turn found it and left it. Nothing else of what the seat knows changed.
+pub record Asks {K : Type 0} (faults : K → ℕ) (origin : Origin) (old : Knowledge) (who : ℕ)
+    (call : Call) (reply : Reply) (new : Knowledge) : Type 0 where
+  pub found : BookState K
+  pub left : BookState K
+  pub one : found.origin ≡ origin
+  pub own : SeesOwn old found.journal
+  pub takes : TakesCall faults old.number who call found left reply (length new.seen)
+  pub seen : new.seen ≡ left.journal
+  pub found_count : new.found ≡ faults found.keeper
+  pub left_count : new.faults ≡ faults left.keeper
   pub same : new ≡ turned old new.seen new.faults new.found

@@ -4,6 +4,7 @@ use Rattle.vr_base.specs.Checks.{◌>>◌}
 use Rattle.vr_base.specs.Links.{EndedLink}
 use Rattle.vr_base.specs.declared.calls.Entry.{Entry}
 use Rattle.vr_core.specs.History.{IsLegal}
+use Rattle.vr_core.specs.Isolation.{IsIsolatedHistory}
 use Rattle.vr_face.specs.Doors.{Attends, desk_state, unless_wanted}
 use Rattle.vr_face.specs.declared.doors.AttendFault.{AttendFault}
 use Rattle.vr_face.specs.declared.doors.AttendFault.TheVariants.{Failed, OutOfMemory}
@@ -13,11 +14,13 @@ use Rattle.vr_turn.specs.Turns.{SeatState, TurnState}
 use Rattle.vr_turn.specs.declared.views.Knowledge.{Knowledge}
 use Rattle.vr_session.specs.declared.shared_book.SharedBook.{SharedBook}
 
--- A seat of this turn, and what it has seen is legal from the origin of the turn's book on.
+-- A seat of this turn, and what it has seen is legal and isolated from the origin of the turn's
+-- book on.
 pub record IsSeatOf {K : Type 0} (turn : TurnState (SharedBook K)) (seat : SeatState)
     : Type 0 where
   pub here : seat.turn ≡ turn.id
   pub legal : ∥ IsLegal turn.first.book.origin seat.knows.seen ∥₁
+  pub isolated : IsIsolatedHistory turn.first.book.origin seat.knows.seen
 
 -- A seat that made calls: its numbers are those that it had, and its count of faults is no less.
 pub record Stays (old new : Knowledge) : Type 0 where

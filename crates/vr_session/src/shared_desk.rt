@@ -2,6 +2,7 @@ ghost use Rattle.std.specs.Prelude.{◌≡◌};
 ghost use Rattle.vr_core.specs.History.{IsLegal};
 ghost use Rattle.vr_core.specs.Machine.{Origin};
 ghost use Rattle.vr_session.specs.SharedBooks.{TakesCall};
+ghost use Rattle.vr_session.specs.Workers.{IsSeatOf};
 
 use crate::shared::Shared;
 use crate::shared_book::SharedBook;
@@ -11,14 +12,13 @@ use vr_keeper::Keeper;
 use vr_turn::TurnSeat;
 
 /// A desk from which calls of a shared book are made, in turn with other desks. What its seat has
-/// seen is legal from the book's origin on.
+/// seen is legal and isolated from the book's origin on.
 #[derive(Drop)]
 pub struct SharedDesk<'a, R: Wait, K: Keeper, G: Gate> {
     rt: &'a R,
     shared: &'a Shared<K, G>,
     seat: TurnSeat<SharedBook<K>>,
-    ghost same: { seat.turn ≡ shared.now.turn.id },
-    ghost legal: { ∥ IsLegal shared.now.turn.first.book.origin seat.knows.seen ∥₁ },
+    ghost of_turn: { IsSeatOf shared.now.turn seat },
 }
 
 impl<'a, R: Wait, K: Keeper, G: Gate> SharedDesk<'a, R, K, G> {
@@ -28,8 +28,7 @@ impl<'a, R: Wait, K: Keeper, G: Gate> SharedDesk<'a, R, K, G> {
         shared: &'a Shared<K, G>,
         seat: TurnSeat<SharedBook<K>>,
     ) -> SharedDesk<'a, R, K, G>
-        requires same { seat.turn ≡ shared.now.turn.id }
-        requires legal { ∥ IsLegal shared.now.turn.first.book.origin seat.knows.seen ∥₁ }
+        requires of_turn { IsSeatOf shared.now.turn seat }
         ensures seat { result.seat ≡ seat }
         ensures shared { result.shared.now ≡ shared.now }
     {
@@ -39,9 +38,7 @@ impl<'a, R: Wait, K: Keeper, G: Gate> SharedDesk<'a, R, K, G> {
     /// Gives the seat back, with what it has seen.
     pub fn into_seat(self) -> TurnSeat<SharedBook<K>>
         ensures seat { result ≡ self.entry.seat }
-        ensures same { result.turn ≡ self.entry.shared.now.turn.id }
-        ensures legal { ∥ IsLegal self.entry.shared.now.turn.first.book.origin
-            result.knows.seen ∥₁ }
+        ensures of_turn { IsSeatOf self.entry.shared.now.turn result }
     {
         let SharedDesk {
             rt: _,
@@ -80,7 +77,8 @@ impl<'a, R: Wait, K: Keeper, G: Gate> Desk for SharedDesk<'a, R, K, G> {
         ensures seen { Sees self.old.seat.knows.number who call result.0
             self.old.seat.knows.seen self.new.seat.knows.seen }
         ensures front { result.1.entries ≡ length self.new.seat.knows.seen }
-        ensures asks { Asks K.faults self.old.seat.knows who call result.0 self.new.seat.knows }
+        ensures asks { Asks K.faults self.old.shared.now.turn.first.book.origin
+            self.old.seat.knows who call result.0 self.new.seat.knows }
         ensures legal { IsLegal self.old.shared.now.turn.first.book.origin
             self.new.seat.knows.seen }
         ensures isolated { IsIsolatedHistory self.old.shared.now.turn.first.book.origin

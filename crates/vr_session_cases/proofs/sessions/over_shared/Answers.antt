@@ -1,5 +1,5 @@
-use Rattle.vr_session_cases.proofs.Fresh.{fresh_legal}
+use Rattle.vr_session.proofs.Seating.{first_seat}
 use Rattle.vr_session_cases.proofs.sessions.over_shared.Goals as goal
 
-pub new-desk-requires-clause-legal : goal.new-desk-requires-clause-legal
-new-desk-requires-clause-legal g c = fresh_legal _ _ _ _ _ c.journal-entries.ensures.book.history c.requires c.in-Ok.ensures.ok.1 c.in-Ok.ensures.ok.4
+pub new-desk-requires : goal.new-desk-requires
+new-desk-requires g c = record { of_turn = first_seat _ _ _ _ c.in-Ok.ensures.ok.2 c.in-Ok.ensures.ok.4 }
