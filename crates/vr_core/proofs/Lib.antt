@@ -8,6 +8,7 @@ pub mod ExecuteLemmas
 pub mod FaultLemmas
 pub mod Histories
 pub mod HistoryLemmas
+pub mod LoadingLemmas
 pub mod OpeningLemmas
 pub mod OrderLemmas
 pub mod Places

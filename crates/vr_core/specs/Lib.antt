@@ -4,6 +4,7 @@ pub mod Files
 pub mod Replies
 pub mod Opening
 pub mod History
+pub mod Loading
 pub mod Crashes
 pub mod PlainDesks
 pub mod Plans

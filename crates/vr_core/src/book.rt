@@ -7,6 +7,7 @@ ghost use Rattle.vr_base.specs.Checks.{result_map, result_map_err};
 ghost use Rattle.vr_core.specs.Crashes.{StepsSafely};
 ghost use Rattle.vr_core.specs.History.{IsBook, Opens, Steps, TellsAsBefore, entry, keeper_of};
 ghost use Rattle.vr_core.specs.Isolation.{IsIsolated, IsIsolatedHistory};
+ghost use Rattle.vr_core.specs.Loading.{LeavesLoaded, OpensListed, start_answer};
 ghost use Rattle.vr_core.specs.Machine.{IsNextFiles, IsRunStep, IsStep, append_effect, body_for, bytes_at, effect, ended_effect, files_with, hash_effect, read_effect, run_place, write_effect};
 ghost use Rattle.vr_core.specs.Opening.{ComesFromRows};
 ghost use Rattle.vr_core.specs.Plans.{AsksRightly, HasDifferences, plan_effect};
@@ -87,10 +88,14 @@ impl<K: Keeper> Book<K> {
             ComesFromRows (K.rows keeper) (Ok book.origin.opening)) }
         ensures bad_row { IfErr result (λ refusal. (place : ℕ) → refusal.0 ≡ StartFault.BadRow place
             → ComesFromRows (K.rows keeper) (Err (StartFault.BadRow place))) }
+        ensures exact { OpensListed (K.listed keeper) (start_answer result) }
+        ensures left { IfErr result (λ refusal.
+            LeavesLoaded (K.listed keeper) refusal.0 (K.is_loaded refusal.1)) }
         ensures cause { HasCauseOf StartFault.KeeperFailed
             (K.faults keeper) (K.faults (keeper_of result))
             (result_map_err (λ refusal. refusal.0) result) }
         ensures rows { K.rows (keeper_of result) ≡ K.rows keeper }
+        ensures listed { K.listed (keeper_of result) ≡ K.listed keeper }
         ensures tells { K.tells_crashes (keeper_of result) ≡ K.tells_crashes keeper }
         ensures crashes { IsTrue (K.tells_crashes keeper) →
             LoadKeepsCrashes (K.clock keeper) (K.clock (keeper_of result))

@@ -1,5 +1,7 @@
-ghost use Rattle.std.specs.Prelude.{◌≡◌, ℕ, IfOk, OnOk, IsTrue, Ok, Err};
+ghost use Rattle.std.specs.Prelude.{◌≡◌, ℕ, IfErr, IfOk, OnOk, IsTrue, Ok, Err};
 ghost use Rattle.vr_base.specs.Causes.{HasCauseOf};
+ghost use Rattle.vr_base.specs.Checks.{result_map};
+ghost use Rattle.vr_core.specs.Loading.{LeavesLoaded, OpensListed};
 ghost use Rattle.vr_core.specs.Opening.{ComesFromRows};
 ghost use Rattle.vr_keeper.specs.Crashes.{LoadKeepsCrashes};
 
@@ -66,8 +68,12 @@ pub fn load<K: Keeper>(
         ComesFromRows (K.rows keeper.old) (Ok new.opening.map)) }
     ensures bad_row { (place : ℕ) → result ≡ Err (StartFault.BadRow place)
         → ComesFromRows (K.rows keeper.old) (Err (StartFault.BadRow place)) }
+    ensures exact { OpensListed (K.listed keeper.old) (result_map (λ new. new.opening.map) result) }
     ensures loaded { OnOk result (IsTrue (K.is_loaded keeper.new)) }
+    ensures left { IfErr result (λ fault.
+        LeavesLoaded (K.listed keeper.old) fault (K.is_loaded keeper.new)) }
     ensures rows { K.rows keeper.new ≡ K.rows keeper.old }
+    ensures listed { K.listed keeper.new ≡ K.listed keeper.old }
     ensures tells { K.tells_crashes keeper.new ≡ K.tells_crashes keeper.old }
     ensures crashes { IsTrue (K.tells_crashes keeper.old) →
         LoadKeepsCrashes (K.clock keeper.old) (K.clock keeper.new)

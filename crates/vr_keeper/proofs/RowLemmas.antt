@@ -10,7 +10,7 @@ use Rattle.vr_files.specs.Changes.{Change, applied, changed, body_of}
 use Rattle.vr_files.proofs.EntryLemmas.{paths_total, one_path, rest_sorted, above_first, find_above}
 use Rattle.vr_files.proofs.OverlayLemmas.{one, get-applied}
 use Rattle.vr_files.proofs.ChangeLemmas.{applied-push}
-use Rattle.vr_keeper.specs.Keepers.{Row, with_rows, rows_map, is_untouched, edited_rows}
+use Rattle.vr_keeper.specs.Keepers.{Row, with_rows, rows_map, is_untouched, edited_rows, changed_rows}
 
 edited_rows-append : (a b : List Change) → edited_rows (a ++ b) ≡ edited_rows a ++ edited_rows b
 edited_rows-append [] b = refl
@@ -80,9 +80,17 @@ both (Some (Some body)) old = refl
 none_first : (changes : List Change) (q : List ℕ) → get no_files q ≡ cond (is_none (find path_cmp q changes)) (get no_files q) None
 none_first changes q = elim (is_none (find path_cmp q changes)) as (λ b. get no_files q ≡ cond b (get no_files q) None) [ true ↦ refl | false ↦ get-empty path_cmp q ]
 
--- the rows without those that were changed, and those of the changes
-pub rows_map-list : (rows : List Row) (changes : List Change) → AreSorted changes → rows_map (filter (is_untouched changes) rows ++ edited_rows changes) ≡ applied (rows_map rows) changes
-rows_map-list rows changes s = same_map paths_total one_path _ _ (λ q.
+-- rows without changes
+pub unchanged_rows : (rows : List Row) → changed_rows rows [] ≡ rows
+unchanged_rows rows = append-nil (filter (is_untouched []) rows) ∙ all_kept rows
+  where
+    all_kept : (rows : List Row) → filter (is_untouched []) rows ≡ rows
+    all_kept [] = refl
+    all_kept (row ∷ rows) = ap (λ kept. row ∷ kept) (all_kept rows)
+
+-- the files of rows with changes are those of the rows, with the changes
+pub rows_map-changed : (rows : List Row) (changes : List Change) → AreSorted changes → rows_map (changed_rows rows changes) ≡ applied (rows_map rows) changes
+rows_map-changed rows changes s = same_map paths_total one_path _ _ (λ q.
     let first = with_rows no_files (filter (is_untouched changes) rows) in
     ap (λ m. get m q) (with_rows-append no_files (filter (is_untouched changes) rows) (edited_rows changes))
     ∙ touched_rows changes first q s ∙ ap (λ o. found_or (find path_cmp q changes) o) (untouched_rows changes rows no_files no_files (none_first changes) q)

@@ -1,5 +1,5 @@
 -- What a keeper holds: rows of names and bytes.
-use Rattle.std.specs.Prelude.{◌≡◌, ℕ, Bool, true, false, not, ◌==◌, List, [], ◌∷◌, length, Option, Some, None, is_none, option_map, Result, Ok, Err}
+use Rattle.std.specs.Prelude.{◌≡◌, ℕ, Bool, true, false, not, ◌==◌, List, [], ◌∷◌, ◌++◌, length, filter, Option, Some, None, is_none, option_map, Result, Ok, Err}
 use Rattle.std.specs.List.{list_any}
 use Rattle.std.specs.FinMap.{insert, find}
 use Rattle.vr_files.specs.FileMaps.{FileMap, no_files, path_cmp}
@@ -42,3 +42,7 @@ abbrev pub edited_rows : List Change → List Row
 edited_rows [] = []
 edited_rows ((path, None) ∷ changes) = edited_rows changes
 edited_rows ((path, Some body) ∷ changes) = (path, body) ∷ edited_rows changes
+
+-- the rows with changes: those that no change touches, and after them those of the files that the changes make
+abbrev pub changed_rows : List Row → List Change → List Row
+changed_rows rows changes = filter (is_untouched changes) rows ++ edited_rows changes

@@ -1,8 +1,8 @@
-ghost use Rattle.std.specs.Prelude.{◌≡◌, ◌≤◌, ℕ, Bool, Option, IsTrue, IsSome, IfSome, IfOk, unwrap_or};
+ghost use Rattle.std.specs.Prelude.{◌≡◌, ◌≤◌, ℕ, Bool, List, Option, Some, IsTrue, IsSome, IfSome, IfOk, unwrap_or};
 ghost use Rattle.vr_base.specs.Causes.{HasCauseOf};
 ghost use Rattle.vr_files.specs.FileMaps.{FileMap};
 ghost use Rattle.vr_keeper.specs.Crashes.{LoadKeepsCrashes, ApplyLeaves};
-ghost use Rattle.vr_keeper.specs.Keepers.{rows_map, rows_after, loads};
+ghost use Rattle.vr_keeper.specs.Keepers.{Row, rows_map, rows_after, loads};
 
 use crate::rows::Rows;
 use std::alloc::{AllocError, AllocFailed, Global};
@@ -61,6 +61,9 @@ pub trait Keeper {
     /// The rows by their names, where the keeper tells them.
     ghost rows: { Self → Option FileMap };
 
+    /// The rows in the order in which a load gives them, where the keeper tells it.
+    ghost listed: { Self → Option (List Row) };
+
     /// Whether the keeper tells what a crash may leave.
     ghost tells_crashes: { Self → Bool };
 
@@ -76,6 +79,8 @@ pub trait Keeper {
         ensures loaded { is_loaded self.new ≡ loads result }
         ensures rows { IfOk result (λ list. IfSome (rows self.old) (λ map. rows_map list ≡ map)) }
         ensures same { rows self.new ≡ rows self.old }
+        ensures listed { IfOk result (λ list. IfSome (listed self.old) (λ told. list ≡ told)) }
+        ensures same_list { listed self.new ≡ listed self.old }
         ensures tells { tells_crashes self.new ≡ tells_crashes self.old }
         ensures crashes { IsTrue (tells_crashes self.old) →
             LoadKeepsCrashes (clock self.old) (clock self.new)
@@ -92,6 +97,9 @@ pub trait Keeper {
             ApplyLeaves (clock self.old) (clock self.new)
             (may_leave self.old) (may_leave self.new) map changes.now result) }
         ensures cause { HasCauseOf KeepFault.Failed (faults self.old) (faults self.new) result };
+
+    /// A keeper that tells the order of its rows tells the rows.
+    ghost listed_are_rows: { (k : Self) → IfSome (listed k) (λ list. rows k ≡ Some (rows_map list)) };
 
     /// A keeper that tells what a crash may leave tells its rows.
     ghost crashes_tell_rows: { (k : Self) → IsTrue (tells_crashes k) → IsSome (rows k) };

@@ -1,7 +1,7 @@
 ghost use Rattle.std.specs.Prelude.{◌≡◌, ◌≤◌, ◌++◌, filter, vec_len, IfOk, OnOk, OnErr};
 ghost use Rattle.vr_files.specs.Changes.{applied};
 ghost use Rattle.vr_files.specs.FileMaps.{FileMap};
-ghost use Rattle.vr_keeper.specs.Keepers.{rows_map, is_untouched, edited_rows};
+ghost use Rattle.vr_keeper.specs.Keepers.{rows_map, is_untouched, edited_rows, changed_rows};
 
 use crate::rows::Rows;
 use std::alloc::Global;
@@ -9,7 +9,8 @@ use std::marker::Model;
 use vr_base::{Bytes, NoMemory, Path};
 use vr_files::{Changes, Edits, FileBody};
 
-/// Rows in memory: those of a store, and what became of them since.
+/// Rows in memory: those of a store, and what became of them since. Contracts see the list of the rows, where the last of
+/// one name counts.
 #[derive(Debug, Drop)]
 pub(crate) struct Kept {
     opening: Rows,
@@ -17,20 +18,17 @@ pub(crate) struct Kept {
 }
 
 impl Model for Kept {
-    ghost use Rattle.vr_files.specs.FileMaps.{FileMap, coded_files};
-    ghost use Rattle.vr_files.specs.Changes.{applied};
-    ghost use Rattle.vr_keeper.specs.Keepers.{rows_map};
+    ghost use Rattle.std.specs.Prelude.{List};
+    ghost use Rattle.vr_keeper.specs.Keepers.{Row, changed_rows};
 
-    ghost Value = { FileMap };
+    ghost Value = { List Row };
 
-    ghost coded = { coded_files };
-
-    ghost view = { λ k. applied (rows_map k.opening) k.edits.changes };
+    ghost view = { λ k. changed_rows k.opening k.edits.changes };
 }
 
 impl Kept {
     pub(crate) fn new(alloc: Global, rows: Rows) -> Kept
-        ensures { result ≡ rows_map rows }
+        ensures { result ≡ rows }
     {
         Kept {
             opening: rows,
@@ -38,9 +36,9 @@ impl Kept {
         }
     }
 
-    /// A list of the rows, where the last of one name counts.
+    /// The rows, copied.
     pub(crate) fn list(&self, alloc: Global) -> Result<Rows, NoMemory>
-        ensures { IfOk result (λ rows. rows_map rows ≡ self.now) }
+        ensures { IfOk result (λ rows. rows ≡ self.now) }
     {
         let mut rows = untouched(alloc, self.opening.as_slice(), &self.edits)?;
         add_files(&mut rows, self.edits.as_slice())?;
@@ -49,12 +47,16 @@ impl Kept {
 
     /// Makes the changes, or none where memory runs out.
     pub(crate) fn apply(&mut self, alloc: Global, changes: &Changes) -> Result<(), NoMemory>
-        ensures ok { OnOk result (self.new ≡ applied self.old changes.now) }
+        ensures ok { OnOk result
+            (rows_map self.new ≡ applied (rows_map self.old) changes.now) }
         ensures err { OnErr result (self.new ≡ self.old) }
     {
         let shared = share(alloc, changes.as_slice())?;
         self.edits.reserve(shared.len())?;
+        // The slices tell that the edits are in order.
+        let _before = self.edits.as_slice();
         put_all(&mut self.edits, shared);
+        let _after = self.edits.as_slice();
         Ok(())
     }
 }

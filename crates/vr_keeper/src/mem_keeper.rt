@@ -1,7 +1,6 @@
 ghost use Rattle.std.specs.Prelude.{◌≡◌, ◌==◌, ◌+◌, ◌-◌, ◌^◌, ◌≤◌, min, false};
 ghost use Rattle.std.specs.List.{list_any};
 ghost use Rattle.vr_base.specs.Causes.{Rose};
-ghost use Rattle.vr_keeper.specs.Keepers.{rows_map};
 
 use crate::keepers::{KeepFault, Keeper};
 use crate::kept::Kept;
@@ -19,7 +18,7 @@ fn fails(calls: &mut u64, failing: &[u64]) -> bool
     failing.contains(&number)
 }
 
-/// A keeper in memory, which tells its rows. The calls of it fail whose numbers are listed.
+/// A keeper in memory, which tells its rows and their order. The calls of it fail whose numbers are listed.
 #[derive(Debug, Drop)]
 pub struct MemKeeper {
     rows: Kept,
@@ -33,7 +32,7 @@ impl MemKeeper {
     /// A keeper of these rows. The calls of `load` and `apply` fail whose numbers, counted together from 0, are listed.
     pub fn new(rows: Rows, failing: Vec<u64>) -> MemKeeper
         ensures { result ≡ record {
-          rows = rows_map rows;
+          rows = rows;
           failing = failing;
           calls = 0;
           faults = 0;
@@ -62,12 +61,17 @@ fn failed(faults: &mut u64) -> KeepFault
 
 impl Keeper for MemKeeper {
     ghost use Rattle.std.specs.Prelude.{Some, false, refl};
+    ghost use Rattle.vr_keeper.specs.Keepers.{rows_map};
 
     ghost faults = { λ k. k.faults };
 
     ghost is_loaded = { λ k. k.loaded };
 
-    ghost rows = { λ k. Some k.rows };
+    ghost rows = { λ k. Some (rows_map k.rows) };
+
+    ghost listed = { λ k. Some k.rows };
+
+    ghost listed_are_rows = { λ k. refl };
 
     ghost tells_crashes = { λ _. false };
 

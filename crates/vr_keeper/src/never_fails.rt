@@ -1,5 +1,4 @@
 ghost use Rattle.std.specs.Prelude.{◌≡◌, false};
-ghost use Rattle.vr_keeper.specs.Keepers.{rows_map};
 
 use crate::keepers::{KeepFault, Keeper};
 use crate::kept::Kept;
@@ -7,7 +6,7 @@ use crate::rows::Rows;
 use std::alloc::Global;
 use vr_files::Changes;
 
-/// A keeper in memory that never fails, and tells its rows.
+/// A keeper in memory that never fails, and tells its rows and their order.
 #[derive(Debug, Drop)]
 pub struct NeverFails {
     rows: Kept,
@@ -16,7 +15,7 @@ pub struct NeverFails {
 
 impl NeverFails {
     pub fn new(alloc: Global, rows: Rows) -> NeverFails
-        ensures { result ≡ record { rows = rows_map rows; loaded = false } }
+        ensures { result ≡ record { rows = rows; loaded = false } }
     {
         NeverFails {
             rows: Kept::new(alloc, rows),
@@ -27,12 +26,17 @@ impl NeverFails {
 
 impl Keeper for NeverFails {
     ghost use Rattle.std.specs.Prelude.{Some, false, refl};
+    ghost use Rattle.vr_keeper.specs.Keepers.{rows_map};
 
     ghost faults = { λ _. 0 };
 
     ghost is_loaded = { λ k. k.loaded };
 
-    ghost rows = { λ k. Some k.rows };
+    ghost rows = { λ k. Some (rows_map k.rows) };
+
+    ghost listed = { λ k. Some k.rows };
+
+    ghost listed_are_rows = { λ k. refl };
 
     ghost tells_crashes = { λ _. false };
 

@@ -129,6 +129,10 @@ impl Keeper for SqlKeeper {
 
     ghost rows = { λ _. None };
 
+    ghost listed = { λ _. None };
+
+    ghost listed_are_rows = { λ k. tt };
+
     ghost tells_crashes = { λ _. false };
 
     ghost clock = { λ _. 0 };
