@@ -5,7 +5,7 @@ use Rattle.std.specs.Io.KnownBytes.{Keeps}
 use Rattle.vr_base.proofs.Written.{AppendsPrefix-none}
 use Rattle.vr_base.specs.Checks.{◌>>=◌}
 use Rattle.vr_base.specs.Outside.{FolderCounts}
-use Rattle.vr_cli.specs.Endings.{Gives, GivesOver, HasCount, HasReadCause, SaysOf, SaysOver, IsAtMostBegun, IsBeforeText, IsOutside, IsCaused, IsRefusal, EndsTask, Ends, around}
+use Rattle.vr_cli.specs.Endings.{Gives, GivesOver, HasCount, HasReadCause, SaysOf, SaysOver, IsAtMostBegun, IsBeforeText, IsOutside, IsCaused, IsRefusal, EndsTask, Ends, NoneFell, around}
 use Rattle.vr_cli.specs.FileWords.{BlamesOnly, IfAbsent, IsFileOf, IsPlaceOf}
 use Rattle.vr_cli.specs.Outputs.{Tested, NamedFiles, in_file, origin_under, policy_from, script_in, Output, text, flows_under, replay_of, summary_under, files_for, output_of, usual_fuel}
 use Rattle.vr_policy_check.specs.Rules.{CheckedData}
@@ -107,15 +107,25 @@ later_cause old between new value (Ok x) h k = record { absences = omega (arith,
 later_cause old between new value (Err status) h k =
     record { absences = omega (arith, h.absences, k.absences); faults = omega (arith, h.faults, k.faults); counted = later_count status old between new h.absences h.faults k.counted }
 
+-- reads leave no count lower, and the sink as it was
+read_later : {A : Type 0} (old new : FolderCounts) (faults : ℕ) (result : Tested A) → HasReadCause {A = A} old new result → NoneFell old new faults faults
+read_later old new faults result h = record { absences = h.absences; reads = h.faults; writes = omega arith }
+
+-- counts that stay don't fall
+pub none_fell : (counts : FolderCounts) (faults : ℕ) → NoneFell counts counts faults faults
+none_fell counts faults = record { absences = omega arith; reads = omega arith; writes = omega arith }
+
 -- ---- how a task ends
 
 module _ (task : Task) (files after : Option NamedFiles) (old new : FolderCounts) (written : Option (List ℕ)) (faults : ℕ) where
   -- memory ran out before anything was written
-  pub ends_starved : after ≡ files → EndsTask task WantOfMemory (around files old written faults) (around after new written faults)
-  ends_starved same = record {
+  pub ends_starved : {A : Type 0} (value : A) → after ≡ files → HasReadCause {A = A} old new (Ok value)
+      → EndsTask task WantOfMemory (around files old written faults) (around after new written faults)
+  ends_starved value same cause = record {
     same = same;
     says = nothing_yet (files_for task files) (output_of task) written;
     caused = tt;
+    later = read_later old new faults (Ok value) cause;
     quiet = λ quiet. absurd quiet;
     blamed = tt;
   }
@@ -128,6 +138,7 @@ module _ (task : Task) (files after : Option NamedFiles) (old new : FolderCounts
     same = same;
     says = says;
     caused = counted_is_caused status old new faults faults cause;
+    later = read_later old new faults (Err status) cause;
     quiet = λ _. Keeps-same written;
     blamed = blames_named status word (IsFileOf task) named blames;
   }
@@ -158,6 +169,7 @@ ends_refused count status files counts written faults refusal says = record {
   same = refl;
   says = says;
   caused = refusal_is_caused status counts faults refusal;
+  later = none_fell counts faults;
   quiet = λ _. Keeps-same written;
   blamed = blames_nobody status (IsPlaceOf (IsFileOf (make count))) refusal;
 }

@@ -20,15 +20,20 @@ use Rattle.vr_face.specs.declared.keys.Keys.{Keys}
 use Rattle.vr_policy_check.specs.Rules.{CheckedData, identity_ids}
 use Rattle.vr_session.specs.Workers.{AttendsAlone}
 use Rattle.vr_files.specs.FileMaps.{FileMap}
+use Rattle.vr_keeper.specs.Keepers.{Row}
 use Rattle.vr_core.specs.History.{BookState}
+use Rattle.vr_core.specs.Loading.{LeavesLoaded, OpensListed}
+use Rattle.vr_core.specs.Opening.{ComesFromRows}
+use Rattle.vr_core.specs.declared.opening.StartFault.{StartFault}
+use Rattle.vr_core.specs.declared.opening.StartFault.TheVariants as starts
 use Rattle.vr_cli.specs.Faults.{status_for}
 use Rattle.vr_cli.specs.FileWords.{IfAbsent}
 use Rattle.vr_cli.specs.Gathering.{Writes}
 use Rattle.vr_cli.specs.Outputs.{NamedFiles, Tested}
-use Rattle.vr_cli.proofs.EndingLemmas.{unchanged}
+use Rattle.vr_cli.proofs.EndingLemmas.{none_fell, unchanged}
 use Rattle.vr_cli.proofs.FileLemmas.{told_more}
-use Rattle.vr_cli.specs.ServerEndings.{HandsOut, EndsUnstarted, IfBook, IsUnder, KeepsCrashes, IsPastReading, SaysOfBasis, IsCounted, OutsideCounts, outside, ServerCauses, NothingFailed, MayStillCome, IsBeforeListening, IsUnstarted, status_at_end, WritesUpTo, wants_memory, ServesAlone, IsServedAlone}
-use Rattle.vr_cli.specs.ServerFiles.{AreBothSaid, AreKeys, IsSaid, GivesBasis, EndsReading, told_of_basis}
+use Rattle.vr_cli.specs.ServerEndings.{HandsOut, EndsUnstarted, IfBook, IsUnder, KeepsCrashes, IsPastReading, SaysOfBasis, IsCounted, OutsideCounts, outside, ServerCauses, NothingFailed, MayStillCome, IsBeforeListening, IsBeforeStart, IsUnstarted, status_at_end, status_for_start, WritesUpTo, wants_memory, ServesAlone, IsServedAlone}
+use Rattle.vr_cli.specs.ServerFiles.{AreBothSaid, AreKeys, IsSaid, GivesBasis, EndsReading, HasFileCause, told_of_basis}
 use Rattle.vr_cli.specs.Servings.{Basis}
 use Rattle.vr_cli.specs.declared.kept.Kept.{Kept}
 use Rattle.vr_cli.specs.declared.kept.Kept.TheVariants as kept
@@ -205,8 +210,14 @@ module _ (status : Status) (old new : FolderCounts) (h : EndsReading old new sta
   pub unread_done : {A : Type 0} → status ≡ statuses.Ok → A
   unread_done e = absurd (count_as statuses.Ok e)
 
-  pub unread_causes : (sink listener keeper : ℕ) → ServerCauses status (outside old sink listener keeper) (outside new sink listener keeper)
-  unread_causes sink listener keeper = record {
+  pub unread_causes : {A : Type 0} → HasFileCause {A = A} old new (Err status) → (sink listener keeper : ℕ)
+      → ServerCauses status (outside old sink listener keeper) (outside new sink listener keeper)
+  unread_causes cause sink listener keeper = record {
+    later = record {
+      folder_and_sink = record { absences = cause.absences; reads = cause.faults; writes = omega arith };
+      listener = omega arith;
+      keeper = omega arith;
+    };
     absent = λ word. count_as (Absent word);
     read_fault = count_as ReadFault;
     write_fault = λ e. absurd (count_as WriteFault e);
@@ -226,13 +237,18 @@ module _ (status : Status) (old new : FolderCounts) (h : EndsReading old new sta
       by_status WantOfMemory k = tt
       by_status s k = absurd k
 
-  pub unread_ends : {K : Type 0} (rows : K → Option FileMap) (listens : Bool) (o : Option (List ℕ)) (keeper : K) → EndsUnstarted rows status listens o o keeper keeper
-  unread_ends rows listens o keeper = record {
+  pub unread_ends : {K : Type 0} (rows : K → Option FileMap) (listed : K → Option (List Row)) (is_loaded : K → Bool) (listens : Bool) (o : Option (List ℕ)) (keeper : K)
+      → EndsUnstarted rows listed is_loaded status listens o o keeper keeper
+  unread_ends rows listed is_loaded listens o keeper = record {
     unstarted = unread_status listens;
     quiet = unchanged o o refl;
     unasked = λ _. refl;
     same = refl;
+    same_list = refl;
     refused = λ row e. absurd (count_as (StoreRefused row) e);
+    exact = λ row e. absurd (count_as (StoreRefused row) e);
+    failed = λ e. absurd (count_as KeeperFault e);
+    left = λ row e. absurd (count_as (StoreRefused row) e);
   }
 
   says_unread : (answer : Tested Basis) → Tells (told_of_basis status) answer → SaysOfBasis status answer
@@ -284,9 +300,14 @@ module _ (status : Status) (h : IsPastReading status) where
   pub begun_heard : {A : Type 0} → IsBeforeListening status → A
   begun_heard k = absurd (not_before status h k)
 
-  pub begun_causes : (old new : OutsideCounts) → IsCounted WriteFault status old.sink new.sink → IsCounted ListenFault status old.listener new.listener
-      → IsCounted KeeperFault status old.keeper new.keeper → ServerCauses status old new
-  begun_causes old new text connections keeper = record {
+  pub begun_causes : {A : Type 0} (value : A) (old new : OutsideCounts) → HasFileCause {A = A} old.folder new.folder (Ok value) → IsCounted WriteFault status old.sink new.sink
+      → IsCounted ListenFault status old.listener new.listener → IsCounted KeeperFault status old.keeper new.keeper → ServerCauses status old new
+  begun_causes value old new files text connections keeper = record {
+    later = record {
+      folder_and_sink = record { absences = files.absences; reads = files.faults; writes = text.later };
+      listener = connections.later;
+      keeper = keeper.later;
+    };
     absent = λ word e. absurd (begun_as (Absent word) e);
     read_fault = λ e. absurd (begun_as ReadFault e);
     write_fault = text.failed;
@@ -326,6 +347,51 @@ module _ (files : Option NamedFiles) (answer : NamedFiles → Tested Basis) (pol
   read_alone faults (kept.Book book) status old (Some list) handed_old handed_new before said same h =
       record { keys = keys; said = rw same.0 said.1; read = are_read; served = h }
 
+-- ---- a start that was refused
+
+-- the fault of a start that has the status
+abbrev start_of : Status → StartFault
+start_of KeeperFault = starts.KeeperFailed
+start_of (StoreRefused row) = starts.BadRow row
+start_of status = starts.OutOfMemory
+
+start_back : (fault : StartFault) → start_of (status_for_start fault) ≡ fault
+start_back starts.KeeperFailed = refl
+start_back (starts.BadRow row) = refl
+start_back starts.OutOfMemory = refl
+
+bad_for : (fault : StartFault) (row : ℕ) → status_for_start fault ≡ StoreRefused row → fault ≡ starts.BadRow row
+bad_for fault row e = sym (start_back fault) ∙ ap start_of e
+
+failed_for : (fault : StartFault) → status_for_start fault ≡ KeeperFault → fault ≡ starts.KeeperFailed
+failed_for fault e = sym (start_back fault) ∙ ap start_of e
+
+start_status : (fault : StartFault) (listens : Bool) → listens ≡ true → IsUnstarted (status_for_start fault) listens
+start_status starts.KeeperFailed listens h = h
+start_status (starts.BadRow row) listens h = h
+start_status starts.OutOfMemory listens h = tt
+
+asked_for : (fault : StartFault) → IsBeforeStart (status_for_start fault) → ⊥
+asked_for starts.KeeperFailed k = k
+asked_for (starts.BadRow row) k = k
+asked_for starts.OutOfMemory k = k
+
+pub refused_ends : {K : Type 0} (rows : K → Option FileMap) (listed : K → Option (List Row)) (is_loaded : K → Bool) (fault : StartFault) (listens : Bool) (o : Option (List ℕ)) (before after : K)
+    → listens ≡ true → rows after ≡ rows before → listed after ≡ listed before
+    → ((place : ℕ) → fault ≡ starts.BadRow place → ComesFromRows (rows before) (Err (starts.BadRow place))) → OpensListed (listed before) (Err fault) → LeavesLoaded (listed before) fault (is_loaded after)
+    → EndsUnstarted rows listed is_loaded (status_for_start fault) listens o o before after
+refused_ends rows listed is_loaded fault listens o before after hears same same_list comes exact left = record {
+  unstarted = start_status fault listens hears;
+  quiet = unchanged o o refl;
+  unasked = λ k. absurd (asked_for fault k);
+  same = same;
+  same_list = same_list;
+  refused = λ row e. comes row (bad_for fault row e);
+  exact = λ row e. subst (λ (f : StartFault). OpensListed (listed before) (Err f)) (bad_for fault row e) exact;
+  failed = λ e. subst (λ (f : StartFault). LeavesLoaded (listed before) f (is_loaded after)) (failed_for fault e) left;
+  left = λ row e. subst (λ (f : StartFault). LeavesLoaded (listed before) f (is_loaded after)) (bad_for fault row e) left;
+}
+
 -- ---- completeness
 
 is_refused : (answer : Tested Basis) (status : Status) → answer ≡ Err status → IsOk answer → ⊥
@@ -354,6 +420,7 @@ complete_over files answer status old new says causes =
 
 pub usage_causes : (index : ℕ) (counts : OutsideCounts) → ServerCauses (Usage index) counts counts
 usage_causes index counts = record {
+  later = record { folder_and_sink = none_fell counts.folder counts.sink; listener = omega arith; keeper = omega arith };
   absent = λ word e. cc (e);
   read_fault = λ e. cc (e);
   write_fault = λ e. cc (e);
@@ -362,11 +429,16 @@ usage_causes index counts = record {
   no_script = λ line e. cc (e);
 }
 
-pub usage_ends : {K : Type 0} (rows : K → Option FileMap) (index : ℕ) (listens : Bool) (o : Option (List ℕ)) (keeper : K) → EndsUnstarted rows (Usage index) listens o o keeper keeper
-usage_ends rows index listens o keeper = record {
+pub usage_ends : {K : Type 0} (rows : K → Option FileMap) (listed : K → Option (List Row)) (is_loaded : K → Bool) (index : ℕ) (listens : Bool) (o : Option (List ℕ)) (keeper : K)
+    → EndsUnstarted rows listed is_loaded (Usage index) listens o o keeper keeper
+usage_ends rows listed is_loaded index listens o keeper = record {
   unstarted = tt;
   quiet = unchanged o o refl;
   unasked = λ _. refl;
   same = refl;
+  same_list = refl;
   refused = λ row e. cc (e);
+  exact = λ row e. cc (e);
+  failed = λ e. cc (e);
+  left = λ row e. cc (e);
 }

@@ -135,6 +135,12 @@ IsCaused (Usage index) old new before after = ⊥
 IsCaused WriteFault old new before after = Rose before after
 IsCaused status old new before after = HasCount old new status
 
+-- Neither a count of the folder nor the sink's count of faults fell.
+pub record NoneFell (old new : FolderCounts) (before after : ℕ) : Type 0 where
+  pub absences : old.absences ≤ new.absences
+  pub reads : old.faults ≤ new.faults
+  pub writes : before ≤ after
+
 -- the status of what ended so
 abbrev pub status_of : Result (Unit {0}) Status → Status
 status_of (Ok _) = statuses.Ok
@@ -162,6 +168,8 @@ pub record EndsTask (task : Task) (status : Status) (old new : Surroundings) : T
   pub says : SaysOver (files_for task old.files) status (output_of task) old.written new.written
   -- what the outside makes comes only where its count rose
   pub caused : IsCaused status old.counts new.counts old.faults new.faults
+  -- and no count fell
+  pub later : NoneFell old.counts new.counts old.faults new.faults
   -- a refusal and a fault of reading leave the sink as it was, whether the folder tells its files or not
   pub quiet : IsQuiet status → Keeps old.written new.written
   -- a file that isn't there is one that a word of the task names
@@ -190,6 +198,8 @@ pub record Ends
 
 -- What made the status of a command, by the folder's counts and the sink's count of faults, each before and after.
 pub record HasCauses (status : Status) (old new : FolderCounts) (before after : ℕ) : Type 0 where
+  -- no count fell, whatever the status
+  pub later : NoneFell old new before after
   -- a file was not there
   pub absent : (word : ℕ) → status ≡ Absent word → Rose old.absences new.absences
   -- a read failed

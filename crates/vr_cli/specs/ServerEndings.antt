@@ -9,6 +9,7 @@ use Rattle.vr_base.specs.declared.calls.Entry.{Entry}
 use Rattle.vr_files.specs.FileMaps.{FileMap}
 use Rattle.vr_core.specs.History.{BookState, IsBook}
 use Rattle.vr_core.specs.Isolation.{IsIsolatedHistory}
+use Rattle.vr_core.specs.Loading.{LeavesLoaded, OpensListed}
 use Rattle.vr_core.specs.Opening.{ComesFromRows}
 use Rattle.vr_core.specs.declared.opening.StartFault.{StartFault}
 use Rattle.vr_core.specs.declared.opening.StartFault.TheVariants as starts
@@ -16,8 +17,10 @@ use Rattle.vr_face.specs.declared.doors.AttendFault.{AttendFault}
 use Rattle.vr_face.specs.declared.doors.AttendFault.TheVariants as sessions
 use Rattle.vr_face.specs.declared.keys.Keys.{Keys}
 use Rattle.vr_keeper.specs.Crashes.{LoadKeepsCrashes}
+use Rattle.vr_keeper.specs.Keepers.{Row}
 use Rattle.vr_session.specs.Workers.{AttendsAlone}
 use Rattle.vr_words.specs.Grammar.{Serving}
+use Rattle.vr_cli.specs.Endings.{NoneFell}
 use Rattle.vr_cli.specs.Faults.{status_for}
 use Rattle.vr_cli.specs.Outputs.{NamedFiles, Tested}
 use Rattle.vr_cli.specs.ServerFiles.{AreKeys, AreSaid}
@@ -70,8 +73,16 @@ abbrev pub outside : FolderCounts → ℕ → ℕ → ℕ → OutsideCounts
 outside folder sink listener keeper =
     record { folder = folder; sink = sink; listener = listener; keeper = keeper }
 
+-- No count of the outside fell.
+pub record NoneOutsideFell (old new : OutsideCounts) : Type 0 where
+  pub folder_and_sink : NoneFell old.folder new.folder old.sink new.sink
+  pub listener : old.listener ≤ new.listener
+  pub keeper : old.keeper ≤ new.keeper
+
 -- What made the status of a server, by the counts of its outside before and after.
 pub record ServerCauses (status : Status) (old new : OutsideCounts) : Type 0 where
+  -- no count fell, whatever the status
+  pub later : NoneOutsideFell old new
   -- a file was not there
   pub absent : (word : ℕ) → status ≡ Absent word → Rose old.folder.absences new.folder.absences
   -- a read failed
@@ -150,7 +161,8 @@ status_for_start (starts.BadRow row) = StoreRefused row
 status_for_start starts.OutOfMemory = WantOfMemory
 
 -- How a server ended whose book was not started, by whether its listener listens, what its sink has, and its keeper.
-pub record EndsUnstarted {K : Type 0} (rows : K → Option FileMap) (status : Status)
+pub record EndsUnstarted {K : Type 0} (rows : K → Option FileMap)
+    (listed : K → Option (List Row)) (is_loaded : K → Bool) (status : Status)
     (listens : Bool) (old new : Option (List ℕ)) (before after : K) : Type 0 where
   pub unstarted : IsUnstarted status listens
   -- nothing was written
@@ -158,9 +170,17 @@ pub record EndsUnstarted {K : Type 0} (rows : K → Option FileMap) (status : St
   -- the keeper is as it was, where it wasn't asked, and else has the same rows
   pub unasked : IsBeforeStart status → after ≡ before
   pub same : rows after ≡ rows before
+  pub same_list : listed after ≡ listed before
   -- a row is refused that is the first bad one of those that the keeper gave
   pub refused : (row : ℕ) → status ≡ StoreRefused row
       → ComesFromRows (rows before) (Err (starts.BadRow row))
+  -- and of those that it lists, where it does
+  pub exact : (row : ℕ) → status ≡ StoreRefused row
+      → OpensListed (listed before) (Err (starts.BadRow row))
+  -- a keeper that failed isn't loaded, and one whose row was refused is where each row has a name
+  pub failed : status ≡ KeeperFault → is_loaded after ≡ false
+  pub left : (row : ℕ) → status ≡ StoreRefused row
+      → LeavesLoaded (listed before) (starts.BadRow row) (is_loaded after)
 
 -- The keeper tells what a crash may leave if it did before, and that is what a crash could leave before.
 pub record KeepsCrashes {K : Type 0} (tells : K → Bool) (clock : K → ℕ)
@@ -190,7 +210,8 @@ WritesUpTo status old new text = ⊥
 
 -- How a server ended whose book was started, by how it was to run, whether its listener listens, what its sink has, the
 -- keeper that was handed in, and the book.
-pub record EndsStarted {K : Type 0} (rows : K → Option FileMap) (is_loaded : K → Bool)
+pub record EndsStarted {K : Type 0} (rows : K → Option FileMap)
+    (listed : K → Option (List Row)) (is_loaded : K → Bool)
     (serving : Serving) (status : Status) (listens : Bool) (old new : Option (List ℕ))
     (keeper : K) (book : BookState K) : Type 0 where
   pub listening : listens ≡ true
@@ -198,16 +219,17 @@ pub record EndsStarted {K : Type 0} (rows : K → Option FileMap) (is_loaded : K
   -- the book began with the steps that a run may make, and with the rows that were loaded
   pub fuel : book.origin.fuel ≡ serving.fuel
   pub loaded : ComesFromRows (rows keeper) (Ok book.origin.opening)
+  pub exact : OpensListed (listed keeper) (Ok book.origin.opening)
   pub opening : IfSome (rows keeper) (λ map. book.origin.opening ≡ map)
   -- its journal is legal from there on, and its files are those after it
   pub legal : IsBook rows is_loaded book
   -- and what each identity was replied depends on no calls but those of which the policy lets it learn
   pub isolated : IsIsolatedHistory book.origin book.journal
-  -- and each call was made at the seat of a worker, or at the first seat, by which the server itself serves what workers
-  -- left
+  -- and each entry has the number of a seat: 1 and so on for the workers, and 0 for the first seat, by which the server
+  -- itself serves what workers left
   pub numbered : All (λ entry. entry.seat ≤ serving.workers) book.journal
 
--- The first lines were written before any connection was handed out: all of them are there, or there was nobody.
+-- Nobody was served without the first lines: all of them are there, or no connection was handed out or given back.
 abbrev pub ComesAfter : Option (List ℕ) → Option (List ℕ) → List ℕ → Type 0 → Type 0
 ComesAfter old new first Nobody = ((rest : List ℕ) × Appends old new (first ++ rest)) ⊎ Nobody
 

@@ -189,7 +189,7 @@ fn parse_ours(words: &[String]) -> Result<Command<'_>, u32>
 ///   program that write the same are taken to be the same.
 ///
 /// The checks come in this order, and the first that fails is the status: the words, the policy's file, what it says, the
-/// script's file, what it says. What the outside did is named by counts that rise.
+/// script's file, what it says. What the outside did is named by counts that rise, and that never fall.
 pub fn command<F: Folder, O: Sink>(
     alloc: Global,
     words: &[String],

@@ -223,11 +223,12 @@ where
     L::Conn: Send,
     requires workers { (1 ≤ serving.workers) × (serving.workers ≤ 16) }
     ensures begun { IsPastReading result.0 }
-    ensures unstarted { IfStore result.2 (EndsUnstarted K.rows result.0 (L.listens result.1)
-        (O.written out.old) (O.written out.new) keeper) }
-    ensures crashes { IfStore result.2 (KeepsCrashes K.tells_crashes K.clock K.may_leave keeper) }
-    ensures started { IfBook result.2 (EndsStarted K.rows K.is_loaded (serving_of serving.entry)
+    ensures unstarted { IfStore result.2 (EndsUnstarted K.rows K.listed K.is_loaded
         result.0 (L.listens result.1) (O.written out.old) (O.written out.new) keeper) }
+    ensures crashes { IfStore result.2 (KeepsCrashes K.tells_crashes K.clock K.may_leave keeper) }
+    ensures started { IfBook result.2 (EndsStarted K.rows K.listed K.is_loaded
+        (serving_of serving.entry) result.0 (L.listens result.1)
+        (O.written out.old) (O.written out.new) keeper) }
     ensures under { IfBook result.2 (λ book.
         (book.origin.policy ≡ policy) × (book.origin.hash ≡ hash)) }
     ensures unserved { IfStore result.2 (λ _. (L.handed_out result.1 ≡ L.handed_out listener)
@@ -297,10 +298,10 @@ where
         (K.faults (kept_keeper result.2))) }
     ensures unheard { IsBeforeListening result.0
         → (result.1 ≡ listener) × (result.2 ≡ Kept.Store keeper) }
-    ensures unstarted { IfStore result.2 (EndsUnstarted K.rows result.0 (L.listens result.1)
-        (O.written out.old) (O.written out.new) keeper) }
+    ensures unstarted { IfStore result.2 (EndsUnstarted K.rows K.listed K.is_loaded
+        result.0 (L.listens result.1) (O.written out.old) (O.written out.new) keeper) }
     ensures crashes { IfStore result.2 (KeepsCrashes K.tells_crashes K.clock K.may_leave keeper) }
-    ensures started { IfBook result.2 (EndsStarted K.rows K.is_loaded
+    ensures started { IfBook result.2 (EndsStarted K.rows K.listed K.is_loaded
         (serving_of asked.entry.serving) result.0 (L.listens result.1)
         (O.written out.old) (O.written out.new) keeper) }
     ensures under { IfSome (F.files folder.old) (λ files. IfBook result.2 (IsUnder
@@ -352,8 +353,8 @@ where
 ///
 /// The checks come in this order, and the first that fails is the status: the words, the policy's file, what it says, the
 /// keys file, what it says, the port, the store. After that, want of memory in a session comes before a failed write, and
-/// that before a connection that was not accepted. What the outside did is named by counts that rise. A fault of a session
-/// ends that session alone. It may wait, for connections, for the book and for its threads.
+/// that before a connection that was not accepted. What the outside did is named by counts that rise, and that never fall.
+/// A fault of a session ends that session alone. It may wait, for connections, for the book and for its threads.
 pub fn serve<
     R: Wait + Threads + Sync,
     L: Listener + Send + Drop,
@@ -402,12 +403,12 @@ where
     // A book was started or not, and what was written says so.
     ensures unheard { IsBeforeListening result.0
         → (result.1 ≡ listener) × (result.2 ≡ Kept.Store keeper) }
-    ensures unstarted { IfStore result.2 (EndsUnstarted K.rows result.0 (L.listens result.1)
-        (O.written out.old) (O.written out.new) keeper) }
+    ensures unstarted { IfStore result.2 (EndsUnstarted K.rows K.listed K.is_loaded
+        result.0 (L.listens result.1) (O.written out.old) (O.written out.new) keeper) }
     ensures crashes { IfStore result.2 (KeepsCrashes K.tells_crashes K.clock K.may_leave keeper) }
     ensures started { WhereAsked (map string_bytes words.now) (λ serving _ _.
-        IfBook result.2 (EndsStarted K.rows K.is_loaded serving result.0 (L.listens result.1)
-        (O.written out.old) (O.written out.new) keeper)) }
+        IfBook result.2 (EndsStarted K.rows K.listed K.is_loaded serving
+        result.0 (L.listens result.1) (O.written out.old) (O.written out.new) keeper)) }
     ensures under { WhereAsked (map string_bytes words.now) (λ _ policy keys.
         IfSome (F.files folder.old) (λ files.
         IfBook result.2 (IsUnder (basis_over policy keys files)))) }

@@ -18,4 +18,4 @@ returns-in_err-checked g c =
 pub returns-in_err-line : goal.returns-in_err-line
 returns-in_err-line g c =
     let same = err_from_is_err_and c.from_residual-in_err-line.result c.from_residual-in_err-line.ensures.1 in
-    rw (same.1, same.2) (ends_starved (check (placed c.args.policy)) _ _ _ _ _ _ c.in_ok-checked.ensures.same)
+    rw (same.1, same.2) (ends_starved (check (placed c.args.policy)) _ _ _ _ _ _ _ c.in_ok-checked.ensures.same c.in_ok-checked.ensures.cause)

@@ -18,4 +18,4 @@ returns-in_err-checked g c =
 pub returns-in_err-text : goal.returns-in_err-text
 returns-in_err-text g c =
     let same = err_from_is_err_and c.from_residual-in_err-text.result c.from_residual-in_err-text.ensures.1 in
-    rw (same.1, same.2) (ends_starved (flows (placed c.args.policy)) _ _ _ _ _ _ c.in_ok-checked.ensures.same)
+    rw (same.1, same.2) (ends_starved (flows (placed c.args.policy)) _ _ _ _ _ _ _ c.in_ok-checked.ensures.same c.in_ok-checked.ensures.cause)

@@ -1,6 +1,6 @@
-use Rattle.std.proofs.Common.{arith}
+use Rattle.std.proofs.Common.{arith, rules}
 use Rattle.vr_face.proofs.PorchLemmas.{keeps_none}
-use Rattle.vr_cli.proofs.ServerLemmas.{alone_since, book_counted, counted_later}
+use Rattle.vr_cli.proofs.ServerLemmas.{alone_since, book_counted, counted_later, refused_ends}
 use Rattle.vr_cli.specs.declared.status.Status.TheVariants.{ListenFault}
 use Rattle.vr_cli.proofs.serving.open.Goals as goal
 
@@ -26,3 +26,8 @@ returns-in-Ok-clause-first g c = rw (c.listen.ensures.handed_out, c.listen.ensur
 
 pub returns-in-Err-clause-crashes : goal.returns-in-Err-clause-crashes
 returns-in-Err-clause-crashes g c = record { telling = c.in-Err.ensures.tells; since = c.in-Err.ensures.crashes }
+
+pub returns-in-Err-clause-unstarted : goal.returns-in-Err-clause-unstarted
+returns-in-Err-clause-unstarted g c =
+    rw c.start_status.ensures (refused_ends g.K.Keeper.rows g.K.Keeper.listed g.K.Keeper.is_loaded c.in-Err.fault _ _ _ _
+    (search rules) c.in-Err.ensures.rows c.in-Err.ensures.listed c.in-Err.ensures.bad_row c.in-Err.ensures.exact c.in-Err.ensures.left)

@@ -44,7 +44,7 @@ pub returns-in-Err-clause-complete : goal.returns-in-Err-clause-complete
 returns-in-Err-clause-complete g c = where_wrong (map string_bytes c.args.words.now) c.in-Err.index _ _ refl c.in-Err.ensures.accepted
 
 pub returns-in-Err-clause-unstarted : goal.returns-in-Err-clause-unstarted
-returns-in-Err-clause-unstarted g c = usage_ends g.K.Keeper.rows c.in-Err.index _ _ c.args.keeper
+returns-in-Err-clause-unstarted g c = usage_ends g.K.Keeper.rows g.K.Keeper.listed g.K.Keeper.is_loaded c.in-Err.index _ _ c.args.keeper
 
 pub returns-in-Err-clause-started : goal.returns-in-Err-clause-started
 returns-in-Err-clause-started g c = where_wrong (map string_bytes c.args.words.now) c.in-Err.index _ _ refl c.in-Err.ensures.accepted

@@ -10,7 +10,7 @@ pub returns-in-Ok-clause-says : goal.returns-in-Ok-clause-says
 returns-in-Ok-clause-says g c = read_says _ _ c.in-Ok.basis.0 c.in-Ok.basis.1 c.in-Ok.basis.2 c.in-Ok.ensures.told c.open.result.0 c.open.ensures.begun
 
 pub returns-in-Ok-clause-causes : goal.returns-in-Ok-clause-causes
-returns-in-Ok-clause-causes g c = begun_causes c.open.result.0 c.open.ensures.begun _ _ c.open.ensures.text c.open.ensures.connections c.open.ensures.keeper
+returns-in-Ok-clause-causes g c = begun_causes c.open.result.0 c.open.ensures.begun _ _ _ c.in-Ok.ensures.cause c.open.ensures.text c.open.ensures.connections c.open.ensures.keeper
 
 pub returns-in-Ok-clause-unheard : goal.returns-in-Ok-clause-unheard
 returns-in-Ok-clause-unheard g c = begun_heard c.open.result.0 c.open.ensures.begun
@@ -29,10 +29,10 @@ pub returns-in-Err-clause-says : goal.returns-in-Err-clause-says
 returns-in-Err-clause-says g c = unread_says c.in-Err.status _ _ c.in-Err.ensures.cause.counted _ _ c.in-Err.ensures.told
 
 pub returns-in-Err-clause-causes : goal.returns-in-Err-clause-causes
-returns-in-Err-clause-causes g c = unread_causes c.in-Err.status _ _ c.in-Err.ensures.cause.counted _ _ _
+returns-in-Err-clause-causes g c = unread_causes c.in-Err.status _ _ c.in-Err.ensures.cause.counted c.in-Err.ensures.cause _ _ _
 
 pub returns-in-Err-clause-unstarted : goal.returns-in-Err-clause-unstarted
-returns-in-Err-clause-unstarted g c = unread_ends c.in-Err.status _ _ c.in-Err.ensures.cause.counted g.K.Keeper.rows _ _ c.args.keeper
+returns-in-Err-clause-unstarted g c = unread_ends c.in-Err.status _ _ c.in-Err.ensures.cause.counted g.K.Keeper.rows g.K.Keeper.listed g.K.Keeper.is_loaded _ _ c.args.keeper
 
 pub returns-in-Err-clause-under : goal.returns-in-Err-clause-under
 returns-in-Err-clause-under g c = freely _
