@@ -1,12 +1,10 @@
 -- A normal form is its own, and a name without a fault has none in its normal form.
-use Rattle.std.proofs.Common.{◌≡◌, ℕ, Bool, true, false, cond, not, nat_eq, eqb, List, [], ◌∷◌, drop, Option, None, Some, option_map, Ok, codes, All, ap, sym, ◌∙◌, refl, subst}
+use Rattle.std.proofs.Common.{◌≡◌, ℕ, Bool, true, false, cond, not, nat_eq, eqb, List, [], ◌∷◌, drop, None, option_map, Ok, codes, All, ap, refl, subst}
 use Rattle.std.specs.List.{starts_with}
-use Rattle.std.specs.Option.{option_or}
 use Rattle.std.proofs.lemmas.Bool.{eqb-true}
 use Rattle.std.proofs.lemmas.List.Elements.{All-drop, All-cons}
-use Rattle.vr_base.specs.Names.{normal_form, from_root, is_name_byte, name_fault, byte_fault, length_fault, first_segment_fault}
+use Rattle.vr_base.specs.Names.{normal_form, from_root, is_name_byte, name_fault, byte_fault, length_fault}
 use Rattle.vr_base.specs.Checks.{unless_fault}
-use Rattle.vr_base.specs.declared.names.PathFault.{PathFault}
 use Rattle.vr_base.specs.declared.names.PathFault.TheVariants.{BadByte}
 use Rattle.vr_base.proofs.FaultLemmas.{neither, none_mapped}
 use Rattle.vr_base.proofs.Places.{none_passes, passes_none}

@@ -48,6 +48,6 @@ abbrev pub AppendsPrefix : Option (List ℕ) → Option (List ℕ) → List ℕ 
 AppendsPrefix old new bytes = (n : ℕ) × (n ≤ length bytes) × Appends old new (take n bytes)
 
 -- How many bytes a write took: no more than there are, and one at least where there are any.
-pub record Takes (count room : ℕ) : Type 0 where
+pub record TakesPart (count room : ℕ) : Type 0 where
   pub within : count ≤ room
   pub some : 0 < room → 0 < count

@@ -2,7 +2,7 @@ ghost use Rattle.std.specs.Prelude.{◌≡◌, ◌≤◌, ℕ, Bool, List, Optio
 ghost use Rattle.std.specs.Io.KnownBytes.{Appends, ReadConsumes, WriteAppends};
 ghost use Rattle.vr_base.specs.Causes.{HasCause};
 ghost use Rattle.vr_base.specs.Links.{EndedLink, IsFresh, IsGivenBack, IsHandedOut};
-ghost use Rattle.vr_base.specs.Outside.{FolderCounts, HasFolderCause, Beside, beside_of, Holds, IsNotThere, AppendsPrefix, Takes};
+ghost use Rattle.vr_base.specs.Outside.{FolderCounts, HasFolderCause, Beside, beside_of, Holds, IsNotThere, AppendsPrefix, TakesPart};
 
 use crate::bytes::Bytes;
 use std::alloc::Global;
@@ -71,7 +71,7 @@ pub trait Sink {
     /// Takes a prefix of the piece and answers how many bytes it took, at least one of a piece that
     /// isn't empty. A write that fails leaves what was written.
     fn write(&mut self, piece: &[u8]) -> Result<usize, Failed>
-        ensures taken { IfOk result (λ count. Takes count (length piece.now)) }
+        ensures taken { IfOk result (λ count. TakesPart count (length piece.now)) }
         ensures bytes { WriteAppends (written self.old) (written self.new) result piece.now }
         ensures beside { beside self.new ≡ beside self.old }
         ensures cause { HasCause (faults self.old) (faults self.new) result };

@@ -6,7 +6,7 @@ use Rattle.std.proofs.lemmas.Bool.{false≢true}
 use Rattle.std.proofs.lemmas.List.{drop-append-le}
 use Rattle.vr_http.specs.Inboxes.{stream, Gathers}
 use Rattle.vr_http.specs.Reading.{SpellsBy, Spells, cut_at, IsPlaced, FindsHead, LocatesHead, ReadsBody}
-use Rattle.vr_http.specs.Requests.{Takes, TakesFirst}
+use Rattle.vr_http.specs.Requests.{TakesRequest, TakesFirst}
 use Rattle.vr_http.specs.declared.faults.HttpFault.{HttpFault}
 use Rattle.vr_http.specs.declared.faults.HttpFault.TheVariants.{BadHead, HeadTooLarge, NoLength, BodyTooLarge, Coding, Expect, CutShort, ReadFault, OutOfMemory}
 use Rattle.vr_http.specs.declared.heads.Head.{Head}
@@ -28,7 +28,7 @@ takes_refused old held before left place fault locates spells =
     by_fault bytes found fault spells)
   where
     by_fault : (bytes : List ℕ) → FindsHead held bytes (Ok (Some place)) → (f : HttpFault)
-        → Spells (slice_range held place.start place.end) (Err f) → Takes bytes left (Err f)
+        → Spells (slice_range held place.start place.end) (Err f) → TakesRequest bytes left (Err f)
     by_fault bytes found BadHead says _ = first_refused bytes (cut_at held place bytes) BadHead found says
     by_fault bytes found HeadTooLarge says _ = first_refused bytes (cut_at held place bytes) HeadTooLarge found says
     by_fault bytes found NoLength says _ = first_refused bytes (cut_at held place bytes) NoLength found says
@@ -63,7 +63,7 @@ takes_cut old held before middle last place said fault gathers locates placed sp
   where
     by_fault : (bytes : List ℕ) → FindsHead held bytes (Ok (Some place))
         → (rest : List ℕ) × (middle ≡ Some rest) × (bytes ≡ held ++ rest) → (f : HttpFault)
-        → ReadsBody said.size (stream (drop place.end held) middle) last (Err f) → Takes bytes last (Err f)
+        → ReadsBody said.size (stream (drop place.end held) middle) last (Err f) → TakesRequest bytes last (Err f)
     by_fault bytes found s CutShort short _ =
         let after = drop place.end held in
         let told : stream after middle ≡ Some (after ++ s.0) = ap (stream after) s.1 in

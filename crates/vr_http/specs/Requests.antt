@@ -76,17 +76,17 @@ is_of_bytes OutOfMemory = false
 is_of_bytes fault = true
 
 -- A call answered what the bytes begin with, and left the bytes after it.
-abbrev pub Takes : List ℕ → Option (List ℕ) → Result (Option Request) HttpFault → Type 0
-Takes bytes left (Ok (Some request)) =
+abbrev pub TakesRequest : List ℕ → Option (List ℕ) → Result (Option Request) HttpFault → Type 0
+TakesRequest bytes left (Ok (Some request)) =
     (rest : List ℕ) × (left ≡ Some rest)
     × First bytes (Ok (Some (record { request = request; rest = rest })))
-Takes bytes left (Ok None) = First bytes (Ok None)
-Takes bytes left (Err fault) = IsTrue (is_of_bytes fault) → First bytes (Err fault)
+TakesRequest bytes left (Ok None) = First bytes (Ok None)
+TakesRequest bytes left (Err fault) = IsTrue (is_of_bytes fault) → First bytes (Err fault)
 
 -- The same, where the source tells the stream.
 abbrev pub TakesFirst : Option (List ℕ) → Option (List ℕ) → Result (Option Request) HttpFault
     → Type 0
-TakesFirst stream left result = IfSome stream (λ bytes. Takes bytes left result)
+TakesFirst stream left result = IfSome stream (λ bytes. TakesRequest bytes left result)
 
 -- How the requests of a stream end: the stream ends between requests; a request closes the
 -- connection; there are as many as a connection may have; the bytes after the last request are at

@@ -1,15 +1,14 @@
 -- The rows of a store with changes.
-use Rattle.std.proofs.Common.{◌≡◌, ℕ, Bool, true, false, cond, List, [], ◌∷◌, ◌++◌, take, get_or, length, ◌<◌, ◌+◌, Option, Some, None, Ordering, refl, sym, ap, subst, ◌∙◌}
-use Rattle.std.proofs.lemmas.List.{take_more, append_assoc, append-nil}
+use Rattle.std.proofs.Common.{◌≡◌, ℕ, true, false, cond, List, [], ◌∷◌, ◌++◌, take, get_or, length, ◌<◌, ◌+◌, Option, Some, None, refl, sym, ap, subst, ◌∙◌}
+use Rattle.std.proofs.lemmas.List.{take_more, append-nil}
 use Rattle.std.specs.Prelude.{unwrap_or, is_none, filter}
 use Rattle.std.specs.Ordering.{eq_by_cmp}
 use Rattle.std.specs.FinMap.{find, get, insert, get-insert, get-empty, same_map}
 use Rattle.vr_files.specs.FileMaps.{FileMap, no_files, path_cmp}
 use Rattle.vr_files.specs.Entries.{AreSorted, AreAbove}
-use Rattle.vr_files.specs.Changes.{Change, applied, changed, body_of}
+use Rattle.vr_files.specs.Changes.{Change, applied}
 use Rattle.vr_files.proofs.EntryLemmas.{paths_total, one_path, rest_sorted, above_first, find_above}
 use Rattle.vr_files.proofs.OverlayLemmas.{one, get-applied}
-use Rattle.vr_files.proofs.ChangeLemmas.{applied-push}
 use Rattle.vr_keeper.specs.Keepers.{Row, with_rows, rows_map, is_untouched, edited_rows, changed_rows}
 
 edited_rows-append : (a b : List Change) → edited_rows (a ++ b) ≡ edited_rows a ++ edited_rows b

@@ -1,6 +1,6 @@
 -- What a crash may leave of a keeper's rows. A keeper that tells it has a clock, and a relation of clock values and maps: whether a
 -- crash at some moment since then may leave the map. What a crash may leave now is what it may leave since the clock's value.
-use Rattle.std.specs.Prelude.{◌≡◌, ◌≤◌, ◌⊎◌, ◌↔◌, ℕ, List, Result, Ok, Err, OnOk}
+use Rattle.std.specs.Prelude.{◌≡◌, ◌≤◌, ◌⊎◌, ◌↔◌, ℕ, List, Result, Err, OnOk}
 use Rattle.vr_files.specs.FileMaps.{FileMap}
 use Rattle.vr_files.specs.Changes.{Change, applied}
 use Rattle.vr_keeper.specs.declared.keepers.KeepFault.{KeepFault}

@@ -99,7 +99,7 @@ pub trait Keeper {
         ensures cause { HasCauseOf KeepFault.Failed (faults self.old) (faults self.new) result };
 
     /// A keeper that tells the order of its rows tells the rows.
-    ghost listed_are_rows: { (k : Self) → IfSome (listed k) (λ list. rows k ≡ Some (rows_map list)) };
+    ghost listed_are_rows: { (k : Self) → IfSome (listed k) (λ rs. rows k ≡ Some (rows_map rs)) };
 
     /// A keeper that tells what a crash may leave tells its rows.
     ghost crashes_tell_rows: { (k : Self) → IsTrue (tells_crashes k) → IsSome (rows k) };

@@ -93,7 +93,7 @@ impl Sink for MemLink {
     ghost use Rattle.std.specs.Io.KnownBytes.{WriteAppends};
     ghost use Rattle.std.specs.Prelude.{◌≡◌, [], Some, IfOk, IsOk};
     ghost use Rattle.vr_base.specs.Causes.{HasCause};
-    ghost use Rattle.vr_base.specs.Outside.{Takes, beside_of};
+    ghost use Rattle.vr_base.specs.Outside.{TakesPart, beside_of};
     ghost use Rattle.vr_memory_links.specs.Links.{input_left};
 
     ghost written = { λ link. Some link.written.items };
@@ -105,7 +105,7 @@ impl Sink for MemLink {
     /// As the trait says. A write that isn't listed fails only where no room is left, and no write
     /// takes memory.
     fn write(&mut self, piece: &[u8]) -> Result<usize, Failed>
-        ensures taken { IfOk result (λ count. Takes count (length piece.now)) }
+        ensures taken { IfOk result (λ count. TakesPart count (length piece.now)) }
         ensures bytes { WriteAppends (Some self.old.written.items) (Some self.new.written.items)
             result piece.now }
         ensures beside { beside_of (Some (input_left self.new)) (Some self.new.input)

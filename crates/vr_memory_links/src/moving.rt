@@ -1,5 +1,5 @@
 ghost use Rattle.std.specs.Prelude.{◌≡◌, ◌+◌, ◌-◌, ◌<◌, ◌≤◌, ◌++◌, min, length, take, drop, vec_len, vec_capacity, IfSome, IfNone};
-ghost use Rattle.vr_base.specs.Outside.{Takes};
+ghost use Rattle.vr_base.specs.Outside.{TakesPart};
 ghost use Rattle.vr_memory_links.specs.Moving.{IsFull, Gives};
 
 use std::alloc::AllocError;
@@ -23,7 +23,7 @@ pub fn add_fitting(written: &mut Vec<u8>, room: usize, bytes: &[u8]) -> Option<u
     requires reserved { room ≤ vec_capacity written.old }
     ensures count { IfSome result (λ count.
         count ≡ min (length bytes.now) (room - vec_len written.old)) }
-    ensures some { IfSome result (λ count. Takes count (length bytes.now)) }
+    ensures some { IfSome result (λ count. TakesPart count (length bytes.now)) }
     ensures added { IfSome result (λ count.
         written.new.items ≡ written.old.items ++ take count bytes.now) }
     ensures same { IfNone result (written.new.items ≡ written.old.items) }

@@ -44,7 +44,7 @@ impl Sink for MemSink {
     ghost use Rattle.std.specs.Io.KnownBytes.{WriteAppends};
     ghost use Rattle.std.specs.Prelude.{◌≡◌, [], length, Some, IfOk};
     ghost use Rattle.vr_base.specs.Causes.{HasCause};
-    ghost use Rattle.vr_base.specs.Outside.{Takes, nothing_beside};
+    ghost use Rattle.vr_base.specs.Outside.{TakesPart, nothing_beside};
     ghost use Rattle.vr_memory_links.specs.Sinks.{TakesWhatFits};
 
     ghost written = { λ sink. Some sink.bytes.items };
@@ -55,7 +55,7 @@ impl Sink for MemSink {
 
     /// As the trait says. A write that isn't listed fails only where no room is left, and no write takes memory.
     fn write(&mut self, piece: &[u8]) -> Result<usize, Failed>
-        ensures taken { IfOk result (λ count. Takes count (length piece.now)) }
+        ensures taken { IfOk result (λ count. TakesPart count (length piece.now)) }
         ensures bytes { WriteAppends (Some self.old.bytes.items) (Some self.new.bytes.items)
             result piece.now }
         ensures cause { HasCause self.old.calls.faults self.new.calls.faults result }

@@ -1,12 +1,9 @@
 -- The lines of a script: what call the words of a line stand for.
-use Rattle.std.specs.Prelude.{ℕ, ◌^◌, Bool, not, ◌&&◌, ◌||◌, ◌==◌, nat_eq, nat_lt, List, [], ◌∷◌, length, replicate, slice_index, codes, bytes_eq, Result, Ok, Err, if◌then◌else◌}
-use Rattle.std.specs.Char.{is_ascii_digit}
-use Rattle.std.specs.List.{list_all, list_any, starts_with, join_with_byte}
+use Rattle.std.specs.Prelude.{ℕ, ◌||◌, ◌==◌, nat_lt, List, [], ◌∷◌, length, replicate, slice_index, codes, bytes_eq, Result, Ok, Err, if◌then◌else◌}
+use Rattle.std.specs.List.{list_any, join_with_byte}
 use Rattle.std.specs.Result.{result_ok}
-use Rattle.std.specs.Str.Parse.{digits_value}
 use Rattle.hex.specs.Hex.{decode_of, decode_sized}
 use Rattle.vr_base.specs.Checks.{◌>>=◌, or_fault, unless_fault, fault_if, result_map, Told, nothing, exactly, GivesBy}
-use Rattle.vr_base.specs.Cuts.{parts_at}
 use Rattle.vr_base.specs.Signs.{space, carriage_return}
 use Rattle.vr_base.specs.declared.calls.Call.{Call}
 use Rattle.vr_base.specs.declared.calls.Call.TheVariants.{Read, Write, Append, Run, Hash}

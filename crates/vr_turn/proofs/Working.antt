@@ -3,7 +3,7 @@ use Rattle.std.proofs.Common.{◌≡◌, ℕ, List, [], ◌∷◌, sym, ap, ◌�
 use Rattle.atomic_table.specs.Table.{Me}
 use Rattle.vr_base.specs.declared.calls.Entry.{Entry}
 use Rattle.vr_turn.specs.Accounts.{Account}
-use Rattle.vr_turn.specs.Plays.{held_of, keeps, Takes}
+use Rattle.vr_turn.specs.Plays.{held_of, keeps, TakesValue}
 use Rattle.vr_turn.specs.Seats.{holding, resting}
 use Rattle.vr_turn.specs.Turns.{IsFrom, Finds}
 use Rattle.vr_turn.specs.declared.views.Held.{Held}
@@ -20,7 +20,7 @@ module _ {S : Type 0} where
 
 module _ {T Origin : Type 0} (account : T → Account Origin) (first : T) where
   -- the value in the slot is what was found
-  pub found_of : (knows : Knowledge) (me : Me (Option T) View) (found : T) → Takes account (IsFrom account first) knows me → me.1 ≡ (0, Some found) ∷ []
+  pub found_of : (knows : Knowledge) (me : Me (Option T) View) (found : T) → TakesValue account (IsFrom account first) knows me → me.1 ≡ (0, Some found) ∷ []
       → (me ≡ (holding knows (held_of account found), (0, Some found) ∷ [])) × Finds account first knows found
   found_of knows me found t slot =
       let same : t.value ≡ found = ap (λ (c : List (ℕ × Option T)). value_in found c) (sym (ap (λ (m : Me (Option T) View). m.1) t.me) ∙ slot) in

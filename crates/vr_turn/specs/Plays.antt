@@ -19,7 +19,7 @@ module _ {T Origin : Type 0} (account : T → Account Origin) where
 
   -- A seat has the turn with a value, which comes from where it should, and whose history and count
   -- of faults go on from what the seat has seen.
-  pub record Takes (is_from : T → Type 0) (knows : Knowledge) (after : Me (Option T) View)
+  pub record TakesValue (is_from : T → Type 0) (knows : Knowledge) (after : Me (Option T) View)
       : Type 0 where
     pub value : T
     pub me : after ≡ (holding knows (held_of value), (0, Some value) ∷ [])
@@ -31,7 +31,7 @@ module _ {T Origin : Type 0} (account : T → Account Origin) where
   abbrev pub Tries : (T → Type 0) → Step (Option T) → Me (Option T) View → ℕ
       → Me (Option T) View → Type 0
   Tries is_from step before found after =
-      (found ≡ 0 → Takes is_from before.0.knows after) × (found ≢ 0 → after ≡ before)
+      (found ≡ 0 → TakesValue is_from before.0.knows after) × (found ≢ 0 → after ≡ before)
 
   -- the seat gave the turn back, with the value in its slot, and has seen what it held
   abbrev pub Frees : Step (Option T) → Me (Option T) View → ℕ → Me (Option T) View → Type 0

@@ -1,7 +1,7 @@
 //! The steps on the table, each with what the seat knows after it.
 ghost use Rattle.std.specs.Prelude.{◌≡◌, ◌<◌, ◌≤◌, true, false, [], ◌∷◌, ◌++◌, length, Some, None};
 ghost use Rattle.vr_turn.specs.Accounts.{AddsAtMostOne};
-ghost use Rattle.vr_turn.specs.Plays.{IsAt, Takes, recorded};
+ghost use Rattle.vr_turn.specs.Plays.{IsAt, TakesValue, recorded};
 ghost use Rattle.vr_turn.specs.Seats.{holding, resting, gave, given, turned};
 ghost use Rattle.vr_turn.specs.Turns.{IsFrom, IsJoined};
 ghost use Rattle.vr_turn.specs.declared.views.Held.{Held};
@@ -23,7 +23,7 @@ pub(crate) fn try_from<T: Chronicle, O: Fact<T>>(top: &Top<T>, seat: &mut Place<
     requires rests { seat.old.me ≡ (resting seat.old.me.0.knows, []) }
     requires source { (y : T) → IsFrom T.account top.now.key.first.value y → O.holds y }
     ensures same { (seat.new.table_id ≡ seat.old.table_id) × (seat.new.id ≡ seat.old.id) }
-    ensures won { result ≡ true → Takes T.account O.holds seat.old.me.0.knows seat.new.me }
+    ensures won { result ≡ true → TakesValue T.account O.holds seat.old.me.0.knows seat.new.me }
     ensures lost { result ≡ false → seat.new.me ≡ seat.old.me }
 {
     top.compare_exchange::<Try<T, O>>(seat, 0, 0, 1) == 0
@@ -35,7 +35,7 @@ pub(crate) fn try_turn<T: Chronicle>(top: &Top<T>, seat: &mut Place<T>) -> bool
     requires rests { seat.old.me ≡ (resting seat.old.me.0.knows, []) }
     ensures same { (seat.new.table_id ≡ seat.old.table_id) × (seat.new.id ≡ seat.old.id) }
     ensures won { result ≡ true →
-        Takes T.account (IsFrom T.account top.now.key.first.value)
+        TakesValue T.account (IsFrom T.account top.now.key.first.value)
         seat.old.me.0.knows seat.new.me }
     ensures lost { result ≡ false → seat.new.me ≡ seat.old.me }
 {

@@ -3,7 +3,7 @@ ghost use Rattle.std.specs.Prelude.{◌≡◌, ◌≤◌, ◌<◌, [], ◌∷◌
 ghost use Rattle.std.specs.Fn.{FnOnceReturnsAtMut, FnOnceTakesAtMut};
 ghost use Rattle.vr_base.specs.declared.calls.Entry.{Entry};
 ghost use Rattle.vr_turn.specs.Accounts.{AddsAtMostOne, Works};
-ghost use Rattle.vr_turn.specs.Plays.{IsAt, Takes, keeps};
+ghost use Rattle.vr_turn.specs.Plays.{IsAt, TakesValue, keeps};
 ghost use Rattle.vr_turn.specs.Seats.{holding, resting};
 ghost use Rattle.vr_turn.specs.Turns.{Finds, IsFrom, TakesTurn};
 ghost use Rattle.vr_turn.specs.declared.views.Held.{Held};
@@ -35,7 +35,7 @@ pub(crate) fn work_in_turn<T: Chronicle, R, F: FnOnce(&mut T) -> R>(
     work: F,
 ) -> R
     requires table { IsAt top.now.table_id seat.old.table_id }
-    requires takes { Takes T.account (IsFrom T.account top.now.key.first.value)
+    requires takes { TakesValue T.account (IsFrom T.account top.now.key.first.value)
         seat.old.me.0.knows seat.old.me }
     requires callable { (y : T)
         → Finds T.account top.now.key.first.value seat.old.me.0.knows y

@@ -12,7 +12,7 @@ use Rattle.vr_wasm_ast.specs.Bytes.{end_byte}
 use Rattle.vr_wasm_ast.specs.Rest.{Rest, rest, Consumes}
 use Rattle.vr_wasm_ast.specs.Grammar.{◌>>=◌, Sequence, gives, where_, byte_then, many}
 use Rattle.vr_wasm_ast.specs.Modules as grammar
-use Rattle.vr_wasm_ast.specs.Modules.{Spells, each_local}
+use Rattle.vr_wasm_ast.specs.Modules.{each_local}
 use Rattle.vr_wasm_decode.specs.declared.fault.DecodeFault.{DecodeFault}
 use Rattle.vr_wasm_decode.specs.declared.fault.DecodeKind.TheVariants.{BadByte, TooMany, SectionSize}
 use Rattle.vr_wasm_decode.specs.Reader.{on_ok, give, sized_at}

@@ -1,5 +1,5 @@
 -- Loads give numbers of their types; stores, copies, fills, growth and the host's replies leave a memory.
-use Rattle.std.proofs.Common.{ℕ, zero, suc, ◌+◌, ◌-◌, ◌*◌, ◌/◌, ◌%◌, ◌^◌, ◌≡◌, ◌≤◌, ◌<◌, List, [], ◌∷◌, ◌++◌, length, take, drop, replicate, length-append, length-drop, refl, ap, ◌∙◌, arith, Some, true, nat_le, ◌==◌}
+use Rattle.std.proofs.Common.{ℕ, zero, suc, ◌+◌, ◌-◌, ◌*◌, ◌/◌, ◌%◌, ◌^◌, ◌≡◌, ◌≤◌, ◌<◌, List, ◌++◌, length, take, drop, replicate, length-append, length-drop, refl, ap, ◌∙◌, arith, Some, true, nat_le, ◌==◌}
 use Rattle.std.proofs.lemmas.Bool.{leb-true}
 use Rattle.std.proofs.lemmas.List.{length-take-le, length-replicate}
 use Rattle.std.proofs.lemmas.Nat.{mod_below}
@@ -8,7 +8,7 @@ use Rattle.vr_wasm_ast.specs.declared.opcodes.MemoryAccess.{MemoryAccess}
 use Rattle.vr_wasm_ast.specs.Opcodes.{load_of}
 use Rattle.vr_wasm_num.specs.declared.memory.TheConstants.{PAGE_SIZE}
 use Rattle.vr_wasm_num.specs.Integers.{signed, unsigned}
-use Rattle.vr_wasm_num.specs.Memory.{Contents, IsPaged, number_of, bytes_of, part, pages_of, with_piece, with_pages}
+use Rattle.vr_wasm_num.specs.Memory.{Contents, IsPaged, bytes_of, part, pages_of, with_piece, with_pages}
 use Rattle.vr_wasm_steps.specs.Effects.{extended}
 use Rattle.vr_wasm_steps.specs.Hosts.{SameSize}
 use Rattle.vr_wasm_steps.specs.Store.{width}

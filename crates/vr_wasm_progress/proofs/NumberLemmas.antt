@@ -4,7 +4,7 @@ use Rattle.std.proofs.lemmas.Bool.{ltb-true, ltb-false, eqb-true, le-ltb}
 use Rattle.std.proofs.lemmas.Nat.{pow_pos, mod_below, leading_le, trailing_le, ones-le, and_le_l, or_lt, xor_lt, shr_le}
 use Rattle.std.proofs.lemmas.Option.{slice_get-get_or}
 use Rattle.std.proofs.Math.Nat.{mod-le, div-le_self, pow-suc}
-use Rattle.std.specs.Int.Count.{count_leading_zeros, count_trailing_zeros, ones}
+use Rattle.std.specs.Int.Count.{count_leading_zeros, count_trailing_zeros}
 use Rattle.std.specs.Int.Signed.{shr_z}
 use Rattle.vr_wasm_ast.specs.declared.opcodes.NumericFamily.{NumericFamily}
 use Rattle.vr_wasm_ast.specs.declared.opcodes.NumericFamily.TheVariants as family

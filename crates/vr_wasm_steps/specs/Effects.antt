@@ -1,6 +1,6 @@
 -- What an instruction that stays in its sequence does to the store, the locals and the operands (WebAssembly Core 1.0,
 -- sections 4.4.1 to 4.4.4; Core 2.0, section 4.4.7, for copy and fill).
-use Rattle.std.specs.Prelude.{ℕ, ◌+◌, ◌-◌, ◌*◌, ◌/◌, ◌%◌, ◌^◌, ◌==◌, nat_lt, nat_le, ℤ, List, [], ◌∷◌, length, replicate, slice_get, slice_set, Option, None, Some, Result, Ok, Err, Bool, true, false, if◌then◌else◌}
+use Rattle.std.specs.Prelude.{ℕ, ◌+◌, ◌-◌, ◌*◌, ◌/◌, ◌%◌, ◌^◌, ◌==◌, nat_lt, nat_le, List, ◌∷◌, length, replicate, slice_get, slice_set, Option, None, Some, Result, Ok, Err, if◌then◌else◌}
 use Rattle.std.specs.Option.{option_map}
 use Rattle.vr_wasm_ast.specs.declared.tree.ValType.{ValType}
 use Rattle.vr_wasm_ast.specs.declared.tree.ValType.TheVariants.{I32, I64}

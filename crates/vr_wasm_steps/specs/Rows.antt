@@ -1,5 +1,5 @@
 -- The step table (WebAssembly Core 1.0, sections 4.4.5 to 4.4.8): what comes next of a configuration.
-use Rattle.std.specs.Prelude.{ℕ, suc, zero, ◌+◌, List, [], ◌∷◌, ◌++◌, length, Option, None, Some, Bool, true, false, if◌then◌else◌, nat_lt, nat_le, ◌==◌, slice_get, take, drop, reverse, replicate, unwrap_or, option_and_then}
+use Rattle.std.specs.Prelude.{ℕ, suc, zero, ◌+◌, List, [], ◌∷◌, ◌++◌, length, Option, None, Some, Bool, true, false, if◌then◌else◌, nat_lt, nat_le, ◌==◌, slice_get, take, drop, reverse, replicate, unwrap_or}
 use Rattle.vr_wasm_ast.specs.declared.tree.FuncType.{FuncType}
 use Rattle.vr_wasm_ast.specs.declared.tree.ValType.{ValType}
 use Rattle.vr_wasm_ast.specs.declared.tree.ValType.TheVariants.{I32, I64}

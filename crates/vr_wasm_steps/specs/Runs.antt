@@ -1,6 +1,6 @@
 -- Whole runs: rows, one after the other.
-use Rattle.std.specs.Prelude.{ℕ, suc, zero, ◌+◌, ◌≡◌, ◌≢◌, ◌≤◌, List, [], ◌∷◌, ◌++◌, Option, option_to_list}
-use Rattle.vr_wasm_steps.specs.Rows.{Program, Config, Next, step, over, exits_with, traps, lost, next}
+use Rattle.std.specs.Prelude.{ℕ, suc, zero, ◌+◌, ◌≡◌, ◌≢◌, ◌≤◌, [], ◌∷◌, ◌++◌, Option, option_to_list}
+use Rattle.vr_wasm_steps.specs.Rows.{Program, Config, step, over, exits_with, traps, lost, next}
 use Rattle.vr_wasm_steps.specs.Store.{Store}
 use Rattle.vr_wasm_steps.specs.Terms.{end}
 

@@ -1,5 +1,5 @@
 -- What a running program keeps beside its term (WebAssembly Core 1.0, section 4.2.3), and the numbers of a type.
-use Rattle.std.specs.Prelude.{ℕ, ◌^◌, ◌<◌, List, [], ◌∷◌, Option, Bool, true, false, if◌then◌else◌, nat_lt}
+use Rattle.std.specs.Prelude.{ℕ, ◌^◌, List, [], ◌∷◌, Option, Bool, true, false, if◌then◌else◌, nat_lt}
 use Rattle.vr_wasm_ast.specs.declared.tree.ValType.{ValType}
 use Rattle.vr_wasm_ast.specs.declared.tree.ValType.TheVariants.{I32, I64}
 use Rattle.vr_wasm_num.specs.Memory.{Contents}

@@ -4,7 +4,7 @@ use Rattle.std.specs.Prelude.{option_map, option_and_then}
 use Rattle.std.specs.List.{flat_map}
 use Rattle.vr_words.proofs.NameLemmas.{not_plain, joined_not_plain, name_alone, name_joined, joined_named, alone_named}
 use Rattle.vr_words.proofs.Results.{bool_cases, mapped, bound, chosen}
-use Rattle.vr_words.specs.Grammar.{Task, Item, operand, apart, joined, item_words, place_after, take_operand, take_item, take_items, task_said}
+use Rattle.vr_words.specs.Grammar.{Task, Item, operand, apart, attached, item_words, place_after, take_operand, take_item, take_items, task_said}
 use Rattle.vr_words.specs.Options.{Said, is_plain, option_name, may_come, give, take_option, equals_sign}
 use Rattle.vr_words.specs.Reading.{State, within, awaiting, named_in, read_named, read_word, step, steps, task_in}
 use Rattle.vr_words.specs.declared.commands.Verb.{Verb}
@@ -71,7 +71,7 @@ module _ (verbs : Verbs) (verb : Verb) where
       let taken = chosen (may_come verb said choice) (give said choice value) more h in
       after_step verbs place (within verb said) (awaiting verb said choice) (option_name choice) (value ∷ rest) (name_read place said choice taken.0)
       ∙ after_step verbs (place + 1) (awaiting verb said choice) (within verb more) value rest (ap (option_map (within verb)) taken.1)
-  item_read place said more (joined choice value) rest h =
+  item_read place said more (attached choice value) rest h =
       after_step verbs place (within verb said) (within verb more) (option_name choice ++ equals_sign ∷ value) rest
       (joined_read place said choice value ∙ ap (option_map (within verb)) h)
 
@@ -114,7 +114,7 @@ module _ (verbs : Verbs) (verb : Verb) where
       → AreItems verb place said (word ∷ words) task
   named_word place said word words task next (choice, Some value) e h others after value_next =
       subst (λ (w : List ℕ). AreItems verb place said (w ∷ words) task) (sym (joined_named word choice value e))
-      (one_word place said (joined choice value) (option_name choice ++ equals_sign ∷ value) words task next (take_option verb said choice value) refl refl refl h others after)
+      (one_word place said (attached choice value) (option_name choice ++ equals_sign ∷ value) words task next (take_option verb said choice value) refl refl refl h others after)
   named_word place said word words task next (choice, None) e h others after value_next =
       let may = chosen (may_come verb said choice) (Some (awaiting verb said choice)) next h in
       let same : awaiting verb said choice ≡ next = cc (may.1) in

@@ -4,7 +4,7 @@ use Rattle.std.specs.Prelude.{◌&&◌, is_none, option_map}
 use Rattle.std.specs.List.{flat_map}
 use Rattle.vr_words.proofs.PlaceLemmas.{begun}
 use Rattle.vr_words.proofs.Results.{mapped, bound, chosen}
-use Rattle.vr_words.specs.Grammar.{Task, Item, operand, apart, joined, item_words, place_after, take_file, takes_two, take_operand, take_item, take_items, IsBegun, AskFor}
+use Rattle.vr_words.specs.Grammar.{Task, Item, operand, apart, attached, item_words, place_after, take_file, takes_two, take_operand, take_item, take_items, IsBegun, AskFor}
 use Rattle.vr_words.specs.Numbers.{number_within}
 use Rattle.vr_words.specs.Options.{Placed, Said, nothing_said, is_plain, is_open, has_option, may_come, give, take_option}
 use Rattle.vr_words.specs.Reading.{State, fresh, steps}
@@ -109,7 +109,7 @@ heavier_item : (verb : Verb) (place : ℕ) (said more : Said) (item : Item) → 
 heavier_item verb place said more (operand word) h =
     heavier_operand verb place said more word (chosen (is_plain word) (take_operand verb place said word) more h).1
 heavier_item verb place said more (apart choice value) h = heavier_option verb said more choice value h
-heavier_item verb place said more (joined choice value) h = omega (arith, heavier_option verb said more choice value h)
+heavier_item verb place said more (attached choice value) h = omega (arith, heavier_option verb said more choice value h)
 
 heavier_items : (verb : Verb) (items : List Item) (place : ℕ) (said end : Said) → take_items verb place said items ≡ Some end
     → length (flat_map item_words items) + weight said ≤ weight end

@@ -55,19 +55,19 @@ pub data Item : Type 0 where
   -- an option in two words, `--name VALUE`
   apart : Choice → List ℕ → Item
   -- an option in one word, `--name=VALUE`
-  joined : Choice → List ℕ → Item
+  attached : Choice → List ℕ → Item
 
 -- the words of an item
 abbrev pub item_words : Item → List (List ℕ)
 item_words (operand word) = word ∷ []
 item_words (apart choice value) = option_name choice ∷ value ∷ []
-item_words (joined choice value) = (option_name choice ++ equals_sign ∷ value) ∷ []
+item_words (attached choice value) = (option_name choice ++ equals_sign ∷ value) ∷ []
 
 -- the place after an item that begins at this place
 abbrev pub place_after : ℕ → Item → ℕ
 place_after place (operand word) = place + 1
 place_after place (apart choice value) = place + 1 + 1
-place_after place (joined choice value) = place + 1
+place_after place (attached choice value) = place + 1
 
 -- whether a command takes the names of two files
 abbrev pub takes_two : Verb → Bool
@@ -95,7 +95,7 @@ abbrev pub take_item : Verb → ℕ → Said → Item → Option Said
 take_item verb place said (operand word) =
     if is_plain word then take_operand verb place said word else None
 take_item verb place said (apart choice value) = take_option verb said choice value
-take_item verb place said (joined choice value) = take_option verb said choice value
+take_item verb place said (attached choice value) = take_option verb said choice value
 
 -- the items from a place on are taken one after the other
 abbrev pub take_items : Verb → ℕ → Said → List Item → Option Said

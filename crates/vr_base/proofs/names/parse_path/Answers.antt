@@ -1,4 +1,4 @@
-use Rattle.std.proofs.Common.{rules, ◌≡◌, ◌∙◌, sym, None}
+use Rattle.std.proofs.Common.{rules, ◌≡◌, None}
 use Rattle.vr_base.specs.Names.{normal_form, segments, name_fault}
 use Rattle.vr_base.proofs.Normal.{without_fault}
 use Rattle.vr_base.proofs.names.parse_path.Goals as goal

@@ -1,6 +1,5 @@
-use Rattle.std.proofs.Common.{◌≡◌, ◌+◌, [], ◌∷◌, ◌++◌, take, Some, None, sym, ap, ◌∙◌, append_assoc}
+use Rattle.std.proofs.Common.{◌≡◌, ◌+◌, [], ◌∷◌, ◌++◌, take, sym, ap, ◌∙◌, append_assoc}
 use Rattle.std.proofs.lemmas.List.{append-nil}
-use Rattle.vr_files.specs.Changes.{Change}
 use Rattle.vr_keeper.specs.Keepers.{edited_rows}
 use Rattle.vr_keeper.proofs.RowLemmas.{edited_rows-more}
 use Rattle.vr_keeper.proofs.kept.add_files.Goals as goal

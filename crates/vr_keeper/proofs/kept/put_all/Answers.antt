@@ -1,4 +1,4 @@
-use Rattle.std.proofs.Common.{◌≡◌, [], ◌∷◌, sym, ap, ◌∙◌, arith, length-append}
+use Rattle.std.proofs.Common.{[], ◌∷◌, sym, ap, ◌∙◌, arith, length-append}
 use Rattle.vr_files.specs.Changes.{Change, applied, changed}
 use Rattle.vr_files.proofs.ChangeLemmas.{applied-push}
 use Rattle.vr_keeper.proofs.kept.put_all.Goals as goal

@@ -1,7 +1,5 @@
-use Rattle.std.proofs.Common.{◌≡◌, ℕ, zero, suc, ◌+◌, ◌<◌, sym, subst, refl, arith, ◌∷◌, inl}
-use Rattle.std.specs.List.{Contains}
+use Rattle.std.proofs.Common.{◌≡◌, ℕ, zero, suc, ◌<◌, sym, subst, arith, inl}
 use Rattle.vr_turn.specs.Seats.{numbers, Has, joined}
-use Rattle.vr_turn.specs.Turns.{HasAll}
 use Rattle.vr_turn.specs.declared.views.Knowledge.{Knowledge}
 use Rattle.vr_turn.proofs.Numbers.{this_has, other_has}
 use Rattle.vr_turn_tests.proofs.journals.closed.Goals as goal
