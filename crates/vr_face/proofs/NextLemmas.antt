@@ -13,8 +13,8 @@ use Rattle.vr_http.specs.declared.faults.HttpFault.TheVariants.{BadHead, HeadToo
 use Rattle.vr_http.specs.declared.requests.Request.{Request}
 use Rattle.vr_face.specs.Answers.{response_to}
 use Rattle.vr_face.specs.Asks.{ask_of}
-use Rattle.vr_face.specs.SessionSteps.{Exchanges, RefusesBytes, Sees, Writes}
-use Rattle.vr_face.specs.Sessions.{Exchange, MayGet, Begins, SeesOwn, SeesUntil, ServesFrom, ServesNext, TakesUntil, WritesUntil, WritesAll, WritesPart, entries_by, entries_of, moment, refused_text}
+use Rattle.vr_face.specs.SessionSteps.{Exchanges, RefusesBytes, SeesRequest, Writes}
+use Rattle.vr_face.specs.Sessions.{Exchange, MayGet, Begins, GainsEntries, SeesUntil, ServesFrom, ServesNext, TakesUntil, WritesUntil, WritesAll, WritesPart, entries_by, entries_of, moment, refused_text}
 use Rattle.vr_face.specs.declared.answers.Answer.{Answer}
 use Rattle.vr_face.specs.declared.keys.Keys.{Keys}
 use Rattle.vr_face.specs.declared.sessions.SessionEnd.{SessionEnd}
@@ -86,12 +86,12 @@ writes_last taken request old new answer ends.WantOfMemory h = inr (part_of_one 
 writes_last taken request old new answer end h = all_of_one old new _ h.0
 
 module _ (keys : Keys) (seat : ℕ) (request : Request) (answer : Answer) (old new : List Entry) where
-  entries_of_one : SeesOwn seat (entries_by seat (ask_of keys request) answer) old new
-      → SeesOwn seat (entries_of keys seat (record { request = request; answer = answer } ∷ [])) old new
-  entries_of_one h = subst (λ (entries : List Entry). SeesOwn seat entries old new) (sym (append-nil _)) h
+  entries_of_one : GainsEntries seat (entries_by seat (ask_of keys request) answer) old new
+      → GainsEntries seat (entries_of keys seat (record { request = request; answer = answer } ∷ [])) old new
+  entries_of_one h = subst (λ (entries : List Entry). GainsEntries seat entries old new) (sym (append-nil _)) h
 
-  sees_last : (end : SessionEnd) → Sees seat (ask_of keys request) old new answer (Some end)
-      → SeesUntil keys seat (record { request = request; answer = answer } ∷ []) old new end
+  sees_last : (end : SessionEnd) → SeesRequest seat (ask_of keys request) old new answer (Some end)
+      → SeesUntil keys seat (record { request = request; answer = answer } ∷ []) None old new end
   sees_last ends.WantOfMemory (inl h) = inl (entries_of_one h)
   sees_last ends.WantOfMemory (inr h) = inr (record { first = []; last = record { request = request; answer = answer }; all = refl; sees = h })
   sees_last end h = entries_of_one h
@@ -130,9 +130,10 @@ module _ (keys : Keys) (seat taken : ℕ) (known after left beyond old new : Opt
 
 -- ---- no request was taken
 
-sees_none : (keys : Keys) (seat : ℕ) (seen : List Entry) (end : SessionEnd) → SeesUntil keys seat [] seen seen end
-sees_none keys seat seen ends.WantOfMemory = inl (sees_nothing seat seen)
-sees_none keys seat seen end = sees_nothing seat seen
+sees_none : (keys : Keys) (seat : ℕ) (refused : Option HttpFault) (seen : List Entry) (end : SessionEnd) → SeesUntil keys seat [] refused seen seen end
+sees_none keys seat None seen ends.WantOfMemory = inl (sees_nothing seat seen)
+sees_none keys seat (Some refused) seen ends.WantOfMemory = sees_nothing seat seen
+sees_none keys seat refused seen end = sees_nothing seat seen
 
 module _ (keys : Keys) (seat taken : ℕ) (known after : Option (List ℕ)) (seen : List Entry) (faults : ℕ) where
   none_next : (old new : Option (List ℕ)) (refused : Option HttpFault) (end : SessionEnd) → IfSome known (λ bytes. TakesUntil taken bytes [] refused end)
@@ -143,7 +144,7 @@ module _ (keys : Keys) (seat taken : ℕ) (known after : Option (List ℕ)) (see
     answered = All-nil (λ (e : Exchange). MayGet (ask_of keys e.request) e.answer);
     takes = t;
     writes = w;
-    sees = sees_none keys seat seen end;
+    sees = sees_none keys seat refused seen end;
     failures = λ few. omega arith;
     later = omega arith;
   }

@@ -9,8 +9,8 @@ use Rattle.vr_http.specs.Responses.{response_bytes}
 use Rattle.vr_http.specs.declared.requests.Request.{Request}
 use Rattle.vr_face.specs.Answers.{response_to}
 use Rattle.vr_face.specs.Asks.{ask_of}
-use Rattle.vr_face.specs.SessionSteps.{Answered, Exchanges, Sees, Writes, end_after}
-use Rattle.vr_face.specs.Sessions.{MayGet, RisesBy, SeesOwn, entries_by, failure_count, moment}
+use Rattle.vr_face.specs.SessionSteps.{Answered, Exchanges, SeesRequest, Writes, end_after}
+use Rattle.vr_face.specs.Sessions.{MayGet, RisesBy, GainsEntries, entries_by, failure_count, moment}
 use Rattle.vr_face.specs.declared.answers.Answer.{Answer}
 use Rattle.vr_face.specs.declared.answers.Answer.TheVariants.{Replied}
 use Rattle.vr_face.specs.declared.asks.Ask.{Ask}
@@ -51,10 +51,10 @@ writes_on number request old new answer h = by request.close (number == most_req
     by false false e = (h, e)
 
 sees_on : (seat number : ℕ) (asked : Result Ask Answer) (close : Bool) (old new : List Entry) (answer : Answer)
-    → SeesOwn seat (entries_by seat asked answer) old new → Sees seat asked old new answer (end_after close number)
+    → GainsEntries seat (entries_by seat asked answer) old new → SeesRequest seat asked old new answer (end_after close number)
 sees_on seat number asked close old new answer h = by close (number == most_requests)
   where
-    by : (close last : Bool) → Sees seat asked old new answer (cond close (Some ends.Closed) (cond last (Some ends.Enough) None))
+    by : (close last : Bool) → SeesRequest seat asked old new answer (cond close (Some ends.Closed) (cond last (Some ends.Enough) None))
     by true last = h
     by false true = h
     by false false = h

@@ -4,7 +4,7 @@ use Rattle.std.proofs.lemmas.Bool.Decides.{nat_tests}
 use Rattle.std.specs.Option.{option_map, option_and_then, option_or}
 use Rattle.matchit.specs.Rows.{Rows, RowsOf, prepend, param_token, catch_all_token}
 use Rattle.matchit.specs.Seek as walk
-use Rattle.matchit.specs.Seek.{seek, step, or_else, first, param_step}
+use Rattle.matchit.specs.Seek.{seek, or_else, first, param_step}
 use Rattle.matchit.specs.Level.{IsText}
 use Rattle.matchit.specs.Router.{RouteOf, rename, map_key}
 use Rattle.matchit.proofs.RenameLemmas.{first-rename}

@@ -1,5 +1,5 @@
 -- What a session did on a connection that tells its bytes, as one of the ways to be served.
-use Rattle.std.proofs.Common.{◌≡◌, ℕ, ◌+◌, inl, inr, List, [], ◌∷◌, ◌++◌, length, take, get_or, Option, Some, None, Result, Err, refl, ap, sym, ◌∙◌, subst, arith, append-nil}
+use Rattle.std.proofs.Common.{◌≡◌, ℕ, ◌+◌, inl, inr, List, [], ◌∷◌, ◌++◌, length, take, get_or, Option, Some, None, Result, refl, ap, sym, ◌∙◌, subst, arith, append-nil}
 use Rattle.std.proofs.Math.Seq.{take-append-add, take-length}
 use Rattle.std.proofs.lemmas.Grind.{flat_map-append}
 use Rattle.std.specs.List.{All}
@@ -8,7 +8,7 @@ use Rattle.vr_http.specs.Requests.{StreamEnd, Cuts, ended, closing, enough, faul
 use Rattle.vr_http.specs.declared.faults.HttpFault.{HttpFault}
 use Rattle.vr_face.specs.Asks.{ask_of}
 use Rattle.vr_face.specs.Doors.{IsServed}
-use Rattle.vr_face.specs.Sessions.{AreAnswered, Exchange, HasLinkCause, IsOwnAnswer, IsPart, MayGet, ServedInPart, ServedWhole, ServedWith, ServesFrom, TakesUntil, WritesPart, WritesUntil, joined, moment, refused_at, requests_of, session_end, texts_of}
+use Rattle.vr_face.specs.Sessions.{AreAnswered, Exchange, HasLinkCause, IsOwnAnswer, IsPart, MayGet, ServedInPart, ServedWhole, ServedWith, ServesFrom, TakesUntil, WritesPart, WritesUntil, concatenated, moment, refused_at, requests_of, session_end, texts_of}
 use Rattle.vr_face.specs.declared.answers.Answer.{Answer}
 use Rattle.vr_face.specs.declared.asks.Ask.{Ask}
 use Rattle.vr_face.specs.declared.keys.Keys.{Keys}
@@ -24,21 +24,21 @@ own_answers keys exchanges answered k d below = own_answer keys (get_or exchange
 
 -- ---- what is written, of all the responses
 
-joined_last : (first : List (List ℕ)) (last : List ℕ) → joined (first ++ last ∷ []) ≡ joined first ++ last
-joined_last first last = flat_map-append (λ (text : List ℕ). text) first (last ∷ []) ∙ ap (λ (bytes : List ℕ). joined first ++ bytes) (append-nil last)
+concatenated_last : (first : List (List ℕ)) (last : List ℕ) → concatenated (first ++ last ∷ []) ≡ concatenated first ++ last
+concatenated_last first last = flat_map-append (λ (text : List ℕ). text) first (last ∷ []) ∙ ap (λ (bytes : List ℕ). concatenated first ++ bytes) (append-nil last)
 
-all_front : (texts : List (List ℕ)) (sent : List ℕ) → sent ≡ joined texts → sent ≡ take (length (joined texts)) (joined texts)
-all_front texts sent e = e ∙ sym (take-length (joined texts))
+all_front : (texts : List (List ℕ)) (sent : List ℕ) → sent ≡ concatenated texts → sent ≡ take (length (concatenated texts)) (concatenated texts)
+all_front texts sent e = e ∙ sym (take-length (concatenated texts))
 
-part_front : (texts first : List (List ℕ)) (last sent : List ℕ) (count : ℕ) → texts ≡ first ++ last ∷ [] → sent ≡ joined first ++ take count last
-    → sent ≡ take (length (joined first) + count) (joined texts)
+part_front : (texts first : List (List ℕ)) (last sent : List ℕ) (count : ℕ) → texts ≡ first ++ last ∷ [] → sent ≡ concatenated first ++ take count last
+    → sent ≡ take (length (concatenated first) + count) (concatenated texts)
 part_front texts first last sent count e h =
-    h ∙ sym (ap (λ (bytes : List ℕ). take (length (joined first) + count) bytes) (ap (λ (all : List (List ℕ)). joined all) e ∙ joined_last first last)
-    ∙ take-append-add (joined first) last count)
+    h ∙ sym (ap (λ (bytes : List ℕ). take (length (concatenated first) + count) bytes) (ap (λ (all : List (List ℕ)). concatenated all) e ∙ concatenated_last first last)
+    ∙ take-append-add (concatenated first) last count)
 
 module _ (input sent : List ℕ) (exchanges : List Exchange) (refused : Option HttpFault) (own : All IsOwnAnswer exchanges) where
   whole : (end : SessionEnd) (stream_end : StreamEnd) → Cuts 0 input (requests_of exchanges) stream_end → refused ≡ refused_at stream_end
-      → session_end stream_end ≡ Some end → sent ≡ joined (texts_of 0 exchanges refused) → ServedWhole input sent end
+      → session_end stream_end ≡ Some end → sent ≡ concatenated (texts_of 0 exchanges refused) → ServedWhole input sent end
   whole end stream_end cuts e is w = record {
     texts = texts_of 0 exchanges refused;
     stream_end = stream_end;
@@ -52,13 +52,13 @@ module _ (input sent : List ℕ) (exchanges : List Exchange) (refused : Option H
     ended = is;
   }
 
-  all_in_part : IsPart 0 input (requests_of exchanges) refused → sent ≡ joined (texts_of 0 exchanges refused) → ServedInPart input sent
+  all_in_part : IsPart 0 input (requests_of exchanges) refused → sent ≡ concatenated (texts_of 0 exchanges refused) → ServedInPart input sent
   all_in_part begins w = record {
     exchanges = exchanges;
     refused = refused;
     begins = begins;
     own = own;
-    count = length (joined (texts_of 0 exchanges refused));
+    count = length (concatenated (texts_of 0 exchanges refused));
     front = all_front (texts_of 0 exchanges refused) sent w;
   }
 
@@ -68,7 +68,7 @@ module _ (input sent : List ℕ) (exchanges : List Exchange) (refused : Option H
     refused = refused;
     begins = begins;
     own = own;
-    count = length (joined w.first) + w.count;
+    count = length (concatenated w.first) + w.count;
     front = part_front (texts_of 0 exchanges refused) w.first w.last sent w.count w.all w.written;
   }
 

@@ -17,7 +17,7 @@ use Rattle.vr_http.specs.declared.faults.HttpFault.{HttpFault}
 use Rattle.vr_http.specs.declared.requests.Request.{Request}
 use Rattle.vr_face.specs.Answers.{response_to}
 use Rattle.vr_face.specs.Asks.{ask_of}
-use Rattle.vr_face.specs.Sessions.{Exchange, MayGet, Moment, SeesOwn, SeesButLast, SeesUntil, ServesOne, ServesFrom, TakesUntil, WritesUntil, WritesAll, WritesPart, Begins, IsPart, entries_by, entries_of, failure_count, unavailable_count, requests_of, texts_of, joined}
+use Rattle.vr_face.specs.Sessions.{Exchange, MayGet, Moment, GainsEntries, SeesButLast, SeesUntil, SeesWithoutMemory, ServesOne, ServesFrom, TakesUntil, WritesUntil, WritesAll, WritesPart, Begins, IsPart, entries_by, entries_of, failure_count, unavailable_count, requests_of, texts_of, concatenated}
 use Rattle.vr_face.specs.declared.keys.Keys.{Keys}
 use Rattle.vr_face.specs.declared.sessions.SessionEnd.{SessionEnd}
 use Rattle.vr_face.specs.declared.sessions.SessionEnd.TheVariants as ends
@@ -49,7 +49,7 @@ all_own seat who call reply = by (is_made reply)
 
 -- what a call adds to the history, of the seat's own
 pub sees_call : (seat who : ℕ) (call : Call) (reply : Reply) (old new : List Entry) → Sees seat who call reply old new
-    → SeesOwn seat (own_entries seat who call reply) old new
+    → GainsEntries seat (own_entries seat who call reply) old new
 sees_call seat who call reply old new s = record {
   more = s.others ++ own_entries seat who call reply;
   history = s.history;
@@ -57,11 +57,11 @@ sees_call seat who call reply old new s = record {
       ∙ rw (none_own seat s.others s.apart) (all_own seat who call reply);
 }
 
-pub sees_nothing : (seat : ℕ) (seen : List Entry) → SeesOwn seat [] seen seen
+pub sees_nothing : (seat : ℕ) (seen : List Entry) → GainsEntries seat [] seen seen
 sees_nothing seat seen = record { more = []; history = sym (append-nil seen); own = refl }
 
-pub sees_then : (seat : ℕ) (xs ys old mid new : List Entry) → SeesOwn seat xs old mid → SeesOwn seat ys mid new
-    → SeesOwn seat (xs ++ ys) old new
+pub sees_then : (seat : ℕ) (xs ys old mid new : List Entry) → GainsEntries seat xs old mid → GainsEntries seat ys mid new
+    → GainsEntries seat (xs ++ ys) old new
 sees_then seat xs ys old mid new h k = record {
   more = h.more ++ k.more;
   history = k.history ∙ ap (λ (entries : List Entry). entries ++ k.more) h.history ∙ append_assoc old h.more k.more;
@@ -96,7 +96,7 @@ module _ (taken : ℕ) (bytes rest : List ℕ) (request : Request) (requests : L
 
 module _ (old mid new : Option (List ℕ)) (text : List ℕ) (texts : List (List ℕ)) (wrote : Appends old mid text) where
   all_more : WritesAll mid new texts → WritesAll old new (text ∷ texts)
-  all_more h = Appends-then old mid new text (joined texts) wrote h
+  all_more h = Appends-then old mid new text (concatenated texts) wrote h
 
   partly_more : WritesPart mid new texts → WritesPart old new (text ∷ texts)
   partly_more h = record {
@@ -105,8 +105,8 @@ module _ (old mid new : Option (List ℕ)) (text : List ℕ) (texts : List (List
     all = ap (λ ts. text ∷ ts) h.all;
     count = h.count;
     within = h.within;
-    written = subst (λ bytes. Appends old new bytes) (sym (append_assoc text (joined h.first) (take h.count h.last)))
-        (Appends-then old mid new text (joined h.first ++ take h.count h.last) wrote h.written);
+    written = subst (λ bytes. Appends old new bytes) (sym (append_assoc text (concatenated h.first) (take h.count h.last)))
+        (Appends-then old mid new text (concatenated h.first ++ take h.count h.last) wrote h.written);
   }
 
   writes_more : (end : SessionEnd) → WritesUntil mid new texts end → WritesUntil old new (text ∷ texts) end
@@ -120,8 +120,8 @@ module _ (old mid new : Option (List ℕ)) (text : List ℕ) (texts : List (List
   writes_more ends.WantOfMemory (inr h) = inr (partly_more h)
 
 module _ (keys : Keys) (seat : ℕ) (old mid new : List Entry) (exchange : Exchange) (exchanges : List Exchange)
-    (saw : SeesOwn seat (entries_by seat (ask_of keys exchange.request) exchange.answer) old mid) where
-  own_more : SeesOwn seat (entries_of keys seat exchanges) mid new → SeesOwn seat (entries_of keys seat (exchange ∷ exchanges)) old new
+    (saw : GainsEntries seat (entries_by seat (ask_of keys exchange.request) exchange.answer) old mid) where
+  own_more : GainsEntries seat (entries_of keys seat exchanges) mid new → GainsEntries seat (entries_of keys seat (exchange ∷ exchanges)) old new
   own_more h = sees_then seat _ _ old mid new saw h
 
   last_more : SeesButLast keys seat exchanges mid new → SeesButLast keys seat (exchange ∷ exchanges) old new
@@ -132,15 +132,19 @@ module _ (keys : Keys) (seat : ℕ) (old mid new : List Entry) (exchange : Excha
     sees = sees_then seat _ _ old mid new saw h.sees;
   }
 
-  sees_more : (end : SessionEnd) → SeesUntil keys seat exchanges mid new end → SeesUntil keys seat (exchange ∷ exchanges) old new end
-  sees_more ends.Closed h = own_more h
-  sees_more ends.Enough h = own_more h
-  sees_more (ends.BadMessage number) h = own_more h
-  sees_more ends.CutShort h = own_more h
-  sees_more ends.ReadFault h = own_more h
-  sees_more ends.WriteFault h = own_more h
-  sees_more ends.WantOfMemory (inl h) = inl (own_more h)
-  sees_more ends.WantOfMemory (inr h) = inr (last_more h)
+  without_memory_more : (refused : Option HttpFault) → SeesWithoutMemory keys seat exchanges mid new refused → SeesWithoutMemory keys seat (exchange ∷ exchanges) old new refused
+  without_memory_more None (inl h) = inl (own_more h)
+  without_memory_more None (inr h) = inr (last_more h)
+  without_memory_more (Some refused) h = own_more h
+
+  sees_more : (refused : Option HttpFault) (end : SessionEnd) → SeesUntil keys seat exchanges refused mid new end → SeesUntil keys seat (exchange ∷ exchanges) refused old new end
+  sees_more refused ends.Closed h = own_more h
+  sees_more refused ends.Enough h = own_more h
+  sees_more refused (ends.BadMessage number) h = own_more h
+  sees_more refused ends.CutShort h = own_more h
+  sees_more refused ends.ReadFault h = own_more h
+  sees_more refused ends.WriteFault h = own_more h
+  sees_more refused ends.WantOfMemory h = without_memory_more refused h
 
 rises_more : (first others before mid after : ℕ) → (mid < 2 ^ 64 - 1 → before + first ≤ mid) → (after < 2 ^ 64 - 1 → mid + others ≤ after)
     → mid ≤ after → after < 2 ^ 64 - 1 → before + (first + others) ≤ after
@@ -170,7 +174,7 @@ serves_more keys seat taken before mid after end one others = record {
       one.goes_on one.takes others.takes;
   writes = writes_more before.written mid.written after.written (response_bytes (response_to (taken + 1) one.exchange.request one.exchange.answer))
       (texts_of (taken + 1) others.exchanges others.refused) one.writes end others.writes;
-  sees = sees_more keys seat before.seen mid.seen after.seen one.exchange others.exchanges one.sees end others.sees;
+  sees = sees_more keys seat before.seen mid.seen after.seen one.exchange others.exchanges one.sees others.refused end others.sees;
   failures = rises_more (failure_count one.exchange.answer) (unavailable_count others.exchanges) before.faults mid.faults after.faults one.failures others.failures others.later;
   later = omega (arith, one.later, others.later);
 }

@@ -9,7 +9,7 @@ use Rattle.vr_http.specs.Responses.{refusal_response, response_bytes}
 use Rattle.vr_http.specs.declared.requests.Request.{Request}
 use Rattle.vr_face.specs.Answers.{response_to}
 use Rattle.vr_face.specs.Asks.{ask_of}
-use Rattle.vr_face.specs.Sessions.{MayGet, Moment, RisesBy, SeesOwn, entries_by, failure_count}
+use Rattle.vr_face.specs.Sessions.{MayGet, Moment, RisesBy, GainsEntries, entries_by, failure_count}
 use Rattle.vr_face.specs.declared.answers.Answer.{Answer}
 use Rattle.vr_face.specs.declared.asks.Ask.{Ask}
 use Rattle.vr_face.specs.declared.keys.Keys.{Keys}
@@ -20,7 +20,7 @@ use Rattle.vr_face.specs.declared.sessions.SessionEnd.TheVariants as ends
 pub record Answered (seat : ℕ) (asked : Result Ask Answer) (old new : List Entry)
     (before after : ℕ) (answer : Answer) : Type 0 where
   pub may : MayGet asked answer
-  pub sees : SeesOwn seat (entries_by seat asked answer) old new
+  pub sees : GainsEntries seat (entries_by seat asked answer) old new
   pub failures : RisesBy (failure_count answer) before after
   pub later : before ≤ after
 
@@ -70,11 +70,12 @@ Writes number request old new answer result =
     × (result ≡ end_after request.close number)
 
 -- The desk has seen the request's call, or, where memory ran out, it may not have.
-abbrev pub Sees : ℕ → Result Ask Answer → List Entry → List Entry → Answer
+abbrev pub SeesRequest : ℕ → Result Ask Answer → List Entry → List Entry → Answer
     → Option SessionEnd → Type 0
-Sees seat asked old new answer (Some ends.WantOfMemory) =
-    SeesOwn seat (entries_by seat asked answer) old new ⊎ SeesOwn seat [] old new
-Sees seat asked old new answer result = SeesOwn seat (entries_by seat asked answer) old new
+SeesRequest seat asked old new answer (Some ends.WantOfMemory) =
+    GainsEntries seat (entries_by seat asked answer) old new ⊎ GainsEntries seat [] old new
+SeesRequest seat asked old new answer result =
+    GainsEntries seat (entries_by seat asked answer) old new
 
 -- What the serving of a request, the one of this number on its connection, did.
 pub record Exchanges (keys : Keys) (seat number : ℕ) (request : Request) (before after : Moment)
@@ -83,6 +84,6 @@ pub record Exchanges (keys : Keys) (seat number : ℕ) (request : Request) (befo
   pub may : MayGet (ask_of keys request) answer
   pub stream : after.stream ≡ before.stream
   pub writes : Writes number request before.written after.written answer result
-  pub sees : Sees seat (ask_of keys request) before.seen after.seen answer result
+  pub sees : SeesRequest seat (ask_of keys request) before.seen after.seen answer result
   pub failures : RisesBy (failure_count answer) before.faults after.faults
   pub later : before.faults ≤ after.faults

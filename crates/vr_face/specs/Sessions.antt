@@ -12,7 +12,7 @@ use Rattle.vr_http.specs.declared.responses.Response.{Response}
 use Rattle.vr_http.specs.declared.faults.HttpFault.{HttpFault}
 use Rattle.vr_http.specs.declared.requests.Request.{Request}
 use Rattle.vr_face.specs.Answers.{response_to}
-use Rattle.vr_face.specs.Asks.{ask_of, call_of}
+use Rattle.vr_face.specs.Asks.{ask_of}
 use Rattle.vr_face.specs.declared.answers.Answer.{Answer}
 use Rattle.vr_face.specs.declared.answers.Answer.TheVariants.{Replied}
 use Rattle.vr_face.specs.declared.asks.Ask.{Ask}
@@ -73,12 +73,12 @@ refused_at (fault refused) = Some refused
 refused_at end = None
 
 -- the texts one after the other
-abbrev pub joined : List (List ℕ) → List ℕ
-joined texts = flat_map (λ text. text) texts
+abbrev pub concatenated : List (List ℕ) → List ℕ
+concatenated texts = flat_map (λ text. text) texts
 
 -- All the texts were written.
 abbrev pub WritesAll : Option (List ℕ) → Option (List ℕ) → List (List ℕ) → Type 0
-WritesAll old new texts = Appends old new (joined texts)
+WritesAll old new texts = Appends old new (concatenated texts)
 
 -- All the texts but the last were written whole, and the last one up to some place.
 pub record WritesPart (old new : Option (List ℕ)) (texts : List (List ℕ)) : Type 0 where
@@ -87,7 +87,7 @@ pub record WritesPart (old new : Option (List ℕ)) (texts : List (List ℕ)) : 
   pub all : texts ≡ first ++ last ∷ []
   pub count : ℕ
   pub within : count ≤ length last
-  pub written : Appends old new (joined first ++ take count last)
+  pub written : Appends old new (concatenated first ++ take count last)
 
 -- ---- what the desk has seen
 
@@ -103,7 +103,7 @@ entries_of keys seat exchanges =
     flat_map (λ exchange. entries_by seat (ask_of keys exchange.request) exchange.answer) exchanges
 
 -- The history goes on, and of what came anew the entries of the seat are exactly these.
-pub record SeesOwn (seat : ℕ) (entries old new : List Entry) : Type 0 where
+pub record GainsEntries (seat : ℕ) (entries old new : List Entry) : Type 0 where
   pub more : List Entry
   pub history : new ≡ old ++ more
   pub own : filter (λ entry. entry.seat == seat) more ≡ entries
@@ -178,14 +178,26 @@ pub record SeesButLast (keys : Keys) (seat : ℕ) (exchanges : List Exchange)
   pub first : List Exchange
   pub last : Exchange
   pub all : exchanges ≡ first ++ last ∷ []
-  pub sees : SeesOwn seat (entries_of keys seat first) old new
+  pub sees : GainsEntries seat (entries_of keys seat first) old new
 
--- What the desk of a session has seen that ended so: the calls of all requests, but without memory
--- the last of them may not have been made.
-abbrev pub SeesUntil : Keys → ℕ → List Exchange → List Entry → List Entry → SessionEnd → Type 0
-SeesUntil keys seat exchanges old new ends.WantOfMemory =
-    SeesOwn seat (entries_of keys seat exchanges) old new ⊎ SeesButLast keys seat exchanges old new
-SeesUntil keys seat exchanges old new end = SeesOwn seat (entries_of keys seat exchanges) old new
+-- What the desk of a session has seen that ended without memory: the calls of all requests, but the
+-- last of them may not have been made where no bytes were refused after it.
+abbrev pub SeesWithoutMemory : Keys → ℕ → List Exchange → List Entry → List Entry
+    → Option HttpFault → Type 0
+SeesWithoutMemory keys seat exchanges old new None =
+    GainsEntries seat (entries_of keys seat exchanges) old new
+    ⊎ SeesButLast keys seat exchanges old new
+SeesWithoutMemory keys seat exchanges old new (Some refused) =
+    GainsEntries seat (entries_of keys seat exchanges) old new
+
+-- What the desk of a session has seen that ended so, by the fault of the bytes that it refused: the
+-- calls of all requests, but without memory maybe not the last.
+abbrev pub SeesUntil : Keys → ℕ → List Exchange → Option HttpFault → List Entry → List Entry
+    → SessionEnd → Type 0
+SeesUntil keys seat exchanges refused old new ends.WantOfMemory =
+    SeesWithoutMemory keys seat exchanges old new refused
+SeesUntil keys seat exchanges refused old new end =
+    GainsEntries seat (entries_of keys seat exchanges) old new
 
 -- What a session was given or leaves: the stream of its connection and what is written on it,
 -- where they are told, and what its desk has seen, with the count of faults.
@@ -208,7 +220,7 @@ pub record ServesFrom (keys : Keys) (seat taken : ℕ) (before after : Moment)
   pub takes : IfSome before.stream
       (λ bytes. TakesUntil taken bytes (requests_of exchanges) refused end)
   pub writes : WritesUntil before.written after.written (texts_of taken exchanges refused) end
-  pub sees : SeesUntil keys seat exchanges before.seen after.seen end
+  pub sees : SeesUntil keys seat exchanges refused before.seen after.seen end
   pub failures : RisesBy (unavailable_count exchanges) before.faults after.faults
   pub later : before.faults ≤ after.faults
 
@@ -226,7 +238,7 @@ pub record ServesOne (keys : Keys) (seat number : ℕ) (before after : Moment) :
   pub goes_on : last_by number exchange.request ≡ None
   pub writes : Appends before.written after.written
       (response_bytes (response_to number exchange.request exchange.answer))
-  pub sees : SeesOwn seat (entries_by seat (ask_of keys exchange.request) exchange.answer)
+  pub sees : GainsEntries seat (entries_by seat (ask_of keys exchange.request) exchange.answer)
       before.seen after.seen
   pub failures : RisesBy (failure_count exchange.answer) before.faults after.faults
   pub later : before.faults ≤ after.faults
@@ -276,7 +288,7 @@ pub record ServedWhole (input written : List ℕ) (end : SessionEnd) : Type 0 wh
   pub texts : List (List ℕ)
   pub stream_end : StreamEnd
   pub responses : AreResponses input texts stream_end
-  pub all : written ≡ joined texts
+  pub all : written ≡ concatenated texts
   pub ended : session_end stream_end ≡ Some end
 
 -- The connection is served in part: what is written is a prefix of the responses to requests with
@@ -287,7 +299,7 @@ pub record ServedInPart (input written : List ℕ) : Type 0 where
   pub begins : IsPart 0 input (requests_of exchanges) refused
   pub own : All IsOwnAnswer exchanges
   pub count : ℕ
-  pub front : written ≡ take count (joined (texts_of 0 exchanges refused))
+  pub front : written ≡ take count (concatenated (texts_of 0 exchanges refused))
 
 -- The connection is served with this end: whole; or in part, where the link failed; or in part,
 -- without memory.
