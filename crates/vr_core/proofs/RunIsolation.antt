@@ -1,18 +1,17 @@
 -- Runs are isolated: a run observes and modifies what its pipeline does, and the quotas count in what it modifies.
 use Rattle.std.proofs.Common.{◌≡◌, ℕ, ◌⊎◌, inl, inr, Bool, true, false, cond, List, [], ◌∷◌, slice_get, get_or, Option, None, Some, Ok, Err, All, Contains, refl, sym, ap, ◌∙◌, subst}
-use Rattle.std.specs.Prelude.{bytes_eq, find, is_none, IsSomeAnd, MatchOption, option_and_then, option_map, unwrap_or, if◌then◌else◌}
+use Rattle.std.specs.Prelude.{bytes_eq, find, is_none, option_and_then, option_map, unwrap_or, if◌then◌else◌}
 use Rattle.std.specs.Cmp.Lexicographic.{bytes_decides}
 use Rattle.std.specs.FinMap.{get}
 use Rattle.std.specs.FinMap as maps
 use Rattle.std.specs.Option.{option_map_or, option_or}
 use Rattle.std.proofs.lemmas.List.Elements.{All-contains, All-head, All-tail, Contains-get_or}
-use Rattle.std.proofs.lemmas.Slice.Zip.{AllZip-right}
 use Rattle.vr_base.specs.Checks.{◌>>=◌, ◌>>◌, or_fault, result_map_err, unless_fault}
 use Rattle.vr_base.specs.declared.calls.Reply.{Reply}
 use Rattle.vr_base.specs.declared.calls.Reply.TheVariants.{BadProgram, Ended, NoSuchPipeline, OutOfFuel, Trapped}
-use Rattle.vr_exec.proofs.IsolationLemmas.{isolated_too}
+use Rattle.vr_exec.proofs.IsolationLemmas.{isolated_too, spelled_text}
 use Rattle.vr_exec.proofs.OnceLemmas.{pipeline_comes_to_one}
-use Rattle.vr_exec.proofs.PathLemmas.{AreFiles, spelled_files}
+use Rattle.vr_exec.proofs.PathLemmas.{AreFiles}
 use Rattle.vr_exec.proofs.SightLemmas.{sees_program}
 use Rattle.vr_exec.specs.Outcomes.{AgreeFor, ChangesWithin, ComesTo, IsIsolated, PipelineComesTo, modifies_path}
 use Rattle.vr_exec.specs.Starts.{bytes_fault, first_pin_fault, missing_file, observes_path, pin_fault}
@@ -25,14 +24,12 @@ use Rattle.vr_files.specs.Changes.{Change, applied}
 use Rattle.vr_files.specs.Entries.{AreSorted}
 use Rattle.vr_files.specs.FileMaps.{FileMap, path_cmp}
 use Rattle.vr_flow.proofs.PolicyLemmas.{pipe_names_at}
-use Rattle.vr_pipe.specs.Grammar.{Spells}
 use Rattle.vr_pipe.specs.Trees.{PipeTree, pipe_tree, programs_of}
 use Rattle.vr_pipe.specs.declared.trees.Tree.{Tree}
 use Rattle.vr_policy_check.specs.Checked.{IsChecked, pipeline_place}
 use Rattle.vr_policy_check.specs.Rules.{CheckedData}
 use Rattle.vr_policy_read.specs.declared.entries.Identity.{Identity}
 use Rattle.vr_policy_read.specs.declared.entries.Pin.{Pin}
-use Rattle.vr_policy_read.specs.declared.entries.Pipeline.{Pipeline}
 use Rattle.vr_rights.proofs.FlowLemmas.{pipeline_observes_what_it_modifies}
 use Rattle.vr_rights.specs.Flows.{may_run, pipeline_modifies, pipeline_observes}
 use Rattle.vr_rights.specs.Quotas.{quota_of}
@@ -122,13 +119,7 @@ programs_seen policy place tree is e = λ k d l.
     sees_program policy (pipe_tree tree) (get_or (programs_of (pipe_tree tree)) k d) (named k d l) (spelled.programs k d l) (Contains-get_or (programs_of (pipe_tree tree)) k d l)
   where
     spelled : AreFiles (pipe_tree tree)
-    spelled = by_text (slice_get policy.policy.pipelines place)
-        (subst (λ o. MatchOption o (Unit {0}) (λ (t : Tree). IsSomeAnd (slice_get policy.policy.pipelines place) (λ (p : Pipeline). Spells p.text (pipe_tree t)))) e
-        (AllZip-right (λ (p : Pipeline) (t : Tree). Spells p.text (pipe_tree t)) policy.policy.pipelines policy.pipes is.trees place))
-      where
-        by_text : (found : Option Pipeline) → IsSomeAnd found (λ (p : Pipeline). Spells p.text (pipe_tree tree)) → AreFiles (pipe_tree tree)
-        by_text None h = absurd h
-        by_text (Some p) h = spelled_files p.text (pipe_tree tree) h
+    spelled = spelled_text policy place tree is e
 
     named : All (Contains (names_of policy)) (programs_of (pipe_tree tree))
     named = λ k d l.

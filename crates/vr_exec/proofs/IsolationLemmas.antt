@@ -1,8 +1,7 @@
 -- The outcome of a run depends on no file that the pipeline doesn't observe, and changes only what the pipeline modifies.
-use Rattle.std.proofs.Common.{◌≡◌, ℕ, Bool, true, false, List, [], ◌∷◌, ◌++◌, map, get_or, Option, Some, None, All, Contains, refl, sym, ap, ◌∙◌, subst}
+use Rattle.std.proofs.Common.{◌≡◌, ℕ, Bool, true, false, List, [], ◌∷◌, ◌++◌, get_or, Option, Some, None, All, Contains, refl, sym, ap, ◌∙◌, subst}
 use Rattle.std.specs.Prelude.{slice_get, IsSomeAnd, IsTrue, MatchOption}
 use Rattle.std.specs.FinMap.{get}
-use Rattle.std.specs.List.{flat_map}
 use Rattle.std.proofs.lemmas.Option.{get_or_from_slice_get, slice_get_within}
 use Rattle.std.proofs.lemmas.List.Elements.{All-cons, All-nil, All-head, All-tail, All-contains_itself, Contains-get_or}
 use Rattle.std.proofs.lemmas.Slice.Zip.{AllZip-right}
@@ -14,13 +13,11 @@ use Rattle.vr_pipe.specs.declared.trees.Tree.{Tree}
 use Rattle.vr_pipe.specs.Grammar.{Spells}
 use Rattle.vr_pipe.specs.Trees.{PipeTree, pipe_tree, programs_of, tests_of}
 use Rattle.vr_policy_check.specs.Checked.{IsChecked}
-use Rattle.vr_policy_check.specs.Rules.{CheckedData, grant_names, pin_paths, program_names}
-use Rattle.vr_policy_read.specs.declared.entries.Identity.{Identity}
+use Rattle.vr_policy_check.specs.Rules.{CheckedData}
 use Rattle.vr_policy_read.specs.declared.entries.Pipeline.{Pipeline}
-use Rattle.vr_policy_read.specs.declared.entries.Program.{Program}
-use Rattle.vr_policy_read.specs.declared.entries.Quota.{Quota}
-use Rattle.vr_rights.specs.Tables.{names_of, names_of_pipes}
-use Rattle.vr_rights.proofs.ZipLemmas.{All-left, All-right, All-flat}
+use Rattle.vr_rights.specs.Tables.{names_of}
+use Rattle.vr_rights.proofs.MakingLemmas.{known_names_of}
+use Rattle.vr_rights.proofs.ZipLemmas.{All-left, All-right}
 use Rattle.vr_wasi_calls.specs.Replies.{reply}
 use Rattle.vr_wasi_calls.specs.Worlds.{World, IsWorld, first_descriptors, word_at}
 use Rattle.vr_wasi_calls.proofs.WorldLemmas.{first_is_world}
@@ -218,23 +215,13 @@ module _ (checked : CheckedData) (pipe : PipeTree) (opening others : FileMap) (a
 -- the paths in a pipeline of the policy are names of the policy
 named_paths : (checked : CheckedData) (place : ℕ) (tree : Tree) → slice_get checked.pipes place ≡ Some tree → All (Contains (names_of checked)) (programs_of (pipe_tree tree) ++ tests_of (pipe_tree tree))
 named_paths checked place tree e =
-    let known = Contains (names_of checked) in
-    let of_identities = flat_map (λ (i : Identity). grant_names i.grants) checked.policy.identities in
-    let of_programs = flat_map (λ (p : Program). grant_names p.grants) checked.policy.programs in
-    let of_pipes = names_of_pipes checked.pipes in
-    let of_quotas = map (λ (q : Quota). q.name) checked.policy.quotas in
-    let from_pipes = of_pipes ++ of_quotas in
-    let from_pins = pin_paths checked.policy ++ from_pipes in
-    let from_names = program_names checked.policy ++ from_pins in
-    let all = All-contains_itself (names_of checked) in
-    let pipes = All-left known of_pipes of_quotas (All-right known (pin_paths checked.policy) from_pipes
-    (All-right known (program_names checked.policy) from_pins (All-right known of_programs from_names (All-right known of_identities (of_programs ++ from_names) all)))) in
-    let each = All-flat known (λ (p : Tree). programs_of (pipe_tree p) ++ tests_of (pipe_tree p)) checked.pipes pipes in
-    subst (λ (p : Tree). All known (programs_of (pipe_tree p) ++ tests_of (pipe_tree p))) (get_or_from_slice_get checked.pipes place tree tree e)
-    (each place tree (slice_get_within checked.pipes place tree e))
+    let names = names_of checked in
+    let known = known_names_of names checked (All-contains_itself names) in
+    subst (λ (p : Tree). All (Contains names) (programs_of (pipe_tree p) ++ tests_of (pipe_tree p))) (get_or_from_slice_get checked.pipes place tree tree e)
+    (known.pipelines place tree (slice_get_within checked.pipes place tree e))
 
 -- its text spells it
-spelled_text : (checked : CheckedData) (place : ℕ) (tree : Tree) → IsChecked checked → slice_get checked.pipes place ≡ Some tree → AreFiles (pipe_tree tree)
+pub spelled_text : (checked : CheckedData) (place : ℕ) (tree : Tree) → IsChecked checked → slice_get checked.pipes place ≡ Some tree → AreFiles (pipe_tree tree)
 spelled_text checked place tree is e =
     by_text (slice_get checked.policy.pipelines place)
     (subst (λ o. MatchOption o (Unit {0}) (λ (t : Tree). IsSomeAnd (slice_get checked.policy.pipelines place) (λ (p : Pipeline). Spells p.text (pipe_tree t)))) e

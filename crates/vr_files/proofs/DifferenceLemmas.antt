@@ -1,11 +1,12 @@
 -- The changes that make a difference.
-use Rattle.std.proofs.Common.{◌≡◌, ℕ, Bool, true, false, cond, not, ◌&&◌, List, [], ◌∷◌, map, Option, Some, None, refl, sym, ap, subst, ◌∙◌}
+use Rattle.std.proofs.Common.{◌≡◌, ℕ, Bool, true, false, cond, not, List, [], ◌∷◌, map, Option, Some, None, refl, sym, ap, subst, ◌∙◌}
 use Rattle.std.specs.Prelude.{unwrap_or, bytes_eq, filter, if◌then◌else◌}
 use Rattle.std.specs.List.{IsDistinct, AllByRecursion}
 use Rattle.std.specs.Ordering.{is_eq, is_lt, eq_by_cmp}
 use Rattle.std.specs.declared.cmp.Ordering.TheVariants.{Less}
 use Rattle.std.specs.FinMap.{find, get, same_map}
 use Rattle.std.specs.FinMap.Entries.{below_all}
+use Rattle.std.proofs.lemmas.Bool.{and_from}
 use Rattle.std.proofs.lemmas.Slice.Eq.{bytes_eq-Decides}
 use Rattle.std.proofs.lemmas.Map.Text.{is_eq-slice_cmp}
 use Rattle.vr_files.specs.FileMaps.{FileMap, path_cmp}
@@ -28,19 +29,16 @@ above_filter : (k : List ℕ) (p : Change → Bool) (es : List Change) → AreAb
 above_filter k p [] a = tt
 above_filter k p (e ∷ es) a = elim (p e) as (λ b. AreAbove k (cond b (e ∷ filter p es) (filter p es))) [ true ↦ (a.0, above_filter k p es a.1) | false ↦ above_filter k p es a.1 ]
 
-both_true : (s t : Bool) → s ≡ true → t ≡ true → (s && t) ≡ true
-both_true s t a b = ap (λ x. x && t) a ∙ b
-
 all_below : (k : List ℕ) (es : List Change) → AreAbove k es → below_all path_cmp k es ≡ true
 all_below k [] a = refl
-all_below k (e ∷ es) a = both_true _ _ (ap is_lt a.0) (all_below k es a.1)
+all_below k (e ∷ es) a = and_from _ _ (ap is_lt a.0) (all_below k es a.1)
 
 sorted_filter : (p : Change → Bool) (es : List Change) → AreSorted es → AreSorted (filter p es)
 sorted_filter p [] s = refl
 sorted_filter p (e ∷ es) s =
     let rest = sorted_filter p es (rest_sorted e es s) in
     elim (p e) as (λ b. AreSorted (cond b (e ∷ filter p es) (filter p es))) [
-      | true ↦ both_true _ _ (all_below e.0 (filter p es) (above_filter e.0 p es (above_first e es s))) rest
+      | true ↦ and_from _ _ (all_below e.0 (filter p es) (above_filter e.0 p es (above_first e es s))) rest
       | false ↦ rest
     ]
 

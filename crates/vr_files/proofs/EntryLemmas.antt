@@ -1,10 +1,10 @@
 -- Places of paths in sorted entries, and what `find` and `put` do there.
-use Rattle.std.proofs.Common.{inl, inr, ◌≡◌, ℕ, zero, suc, ◌<◌, ◌≤◌, Bool, true, false, ◌&&◌, cond, not, Ordering, List, [], ◌∷◌, ◌++◌, length, take, drop, get_or, set, Some, None, Result, Ok, Err, IfOk, IfErr, refl, sym, ap, subst, ◌∙◌, arith}
+use Rattle.std.proofs.Common.{inl, inr, ◌≡◌, ℕ, zero, suc, ◌<◌, ◌≤◌, true, cond, not, Ordering, List, [], ◌∷◌, ◌++◌, length, take, drop, get_or, set, Some, None, Result, Ok, Err, IfOk, IfErr, refl, sym, ap, subst, ◌∙◌, arith}
 use Rattle.std.specs.List.{HoldsAt, AllWithin}
 use Rattle.std.specs.List.Sorted.{IsNonDecreasingBy, IsPartitionPoint, IsSearchInRange, IsBinarySearchResult}
 use Rattle.std.specs.declared.cmp.Ordering.TheVariants.{Less, Equal, Greater}
 use Rattle.std.specs.Ordering.{is_eq, is_lt, ordering_reverse, ordering_index}
-use Rattle.std.proofs.lemmas.Bool.{cases_lt}
+use Rattle.std.proofs.lemmas.Bool.{and_parts, cases_lt}
 use Rattle.std.specs.Cmp.{IsTotalOrder, tied_itself}
 use Rattle.std.specs.Cmp.Lexicographic.{nat_list_cmp_total}
 use Rattle.std.specs.FinMap.{find, put, IsAntisymmetric, slice_cmp-IsAntisymmetric, nat_cmp-IsAntisymmetric}
@@ -17,14 +17,6 @@ paths_total = nat_list_cmp_total
 
 pub one_path : IsAntisymmetric path_cmp
 one_path = slice_cmp-IsAntisymmetric nat_cmp-IsAntisymmetric
-
-first_true : (s t : Bool) → (s && t) ≡ true → s ≡ true
-first_true true t h = refl
-first_true false t h = h
-
-second_true : (s t : Bool) → (s && t) ≡ true → t ≡ true
-second_true true t h = h
-second_true false t h = cc
 
 less : (o : Ordering) → is_lt o ≡ true → o ≡ Less
 less Less h = refl
@@ -49,7 +41,7 @@ below_ends Greater Greater x y k h a b = omega arith
 module _ {V : Type 0} where
   all_less : (x : List ℕ) (es : List (List ℕ × V)) → below_all path_cmp x es ≡ true → AreAbove x es
   all_less x [] h = tt
-  all_less x (e ∷ es) h = (less _ (first_true _ _ h), all_less x es (second_true _ _ h))
+  all_less x (e ∷ es) h = (less _ (and_parts _ _ h).0, all_less x es (and_parts _ _ h).1)
 
   less_at : (x : List ℕ) (es : List (List ℕ × V)) (i : ℕ) (d : List ℕ × V) → AreAbove x es → i < length es → path_cmp x (get_or es i d).0 ≡ Less
   less_at x [] i d a h = absurd (omega arith)
@@ -59,8 +51,8 @@ module _ {V : Type 0} where
   less_between : (es : List (List ℕ × V)) (i j : ℕ) (d : List ℕ × V) → AreSorted es → i < j → j < length es → path_cmp (get_or es i d).0 (get_or es j d).0 ≡ Less
   less_between [] i j d s a b = absurd (omega arith)
   less_between (e ∷ es) i zero d s a b = absurd (omega arith)
-  less_between (e ∷ es) zero (suc j) d s a b = less_at e.0 es j d (all_less e.0 es (first_true _ _ s)) (omega arith)
-  less_between (e ∷ es) (suc i) (suc j) d s a b = less_between es i j d (second_true _ _ s) (omega arith) (omega arith)
+  less_between (e ∷ es) zero (suc j) d s a b = less_at e.0 es j d (all_less e.0 es (and_parts _ _ s).0) (omega arith)
+  less_between (e ∷ es) (suc i) (suc j) d s a b = less_between es i j d (and_parts _ _ s).1 (omega arith) (omega arith)
 
   -- the answers to a path rise
   pub rising : (k : List ℕ) (es : List (List ℕ × V)) → AreSorted es → IsNonDecreasingBy (λ e. ordering_index (path_cmp e.0 k)) es
@@ -74,10 +66,10 @@ module _ {V : Type 0} where
   at_place k [] i s h is = absurd (omega arith)
   at_place k (e ∷ es) zero s h is =
       let same : e.0 ≡ k = one_path e.0 k (is e) in
-      record { within = h; here = λ d. same; below = tt; above = subst (λ x. AreAbove x es) same (all_less e.0 es (first_true _ _ s)) }
+      record { within = h; here = λ d. same; below = tt; above = subst (λ x. AreAbove x es) same (all_less e.0 es (and_parts _ _ s).0) }
   at_place k (e ∷ es) (suc i) s h is =
-      let rest = at_place k es i (second_true _ _ s) (omega arith) (λ d. is d) in
-      let lower : path_cmp e.0 k ≡ Less = ap (λ x. path_cmp e.0 x) (sym (rest.here e)) ∙ less_at e.0 es i e (all_less e.0 es (first_true _ _ s)) (omega arith) in
+      let rest = at_place k es i (and_parts _ _ s).1 (omega arith) (λ d. is d) in
+      let lower : path_cmp e.0 k ≡ Less = ap (λ x. path_cmp e.0 x) (sym (rest.here e)) ∙ less_at e.0 es i e (all_less e.0 es (and_parts _ _ s).0) (omega arith) in
       record { within = h; here = λ d. rest.here d; below = (turned e.0 k Less lower, rest.below); above = rest.above }
 
   all_turned_below : (k : List ℕ) (es : List (List ℕ × V)) (i : ℕ) → AllWithin (λ e. path_cmp e.0 k ≡ Less) es 0 i → i ≤ length es → AreBelow k (take i es)
@@ -164,10 +156,10 @@ module _ {V : Type 0} where
   search_absent k es (Err i) s h is = at_gap k es i h (is (rising k es s))
 
   pub rest_sorted : (e : List ℕ × V) (es : List (List ℕ × V)) → AreSorted (e ∷ es) → AreSorted es
-  rest_sorted e es s = second_true _ _ s
+  rest_sorted e es s = (and_parts _ _ s).1
 
   pub above_first : (e : List ℕ × V) (es : List (List ℕ × V)) → AreSorted (e ∷ es) → AreAbove e.0 es
-  above_first e es s = all_less e.0 es (first_true _ _ s)
+  above_first e es s = all_less e.0 es (and_parts _ _ s).0
 
   -- where a path was put
   pub at_put : (k : List ℕ) (v : V) (es : List (List ℕ × V)) (i : ℕ) → IsGap k es i → IsAt k (take i es ++ (k, v) ∷ drop i es) i

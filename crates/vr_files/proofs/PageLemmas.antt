@@ -1,6 +1,7 @@
 -- The bytes of lists of pages.
-use Rattle.std.proofs.Common.{Bool, true, false, ◌&&◌, ◌≡◌, ◌⊎◌, inl, inr, ℕ, suc, ◌+◌, ◌-◌, ◌*◌, ◌≤◌, ◌<◌, min, List, [], ◌∷◌, ◌++◌, length, take, drop, get_or, set, replicate, refl, sym, ap, subst, ◌∙◌, arith, append_assoc, length-append}
+use Rattle.std.proofs.Common.{Bool, true, ◌≡◌, ◌⊎◌, inl, inr, ℕ, suc, ◌+◌, ◌-◌, ◌*◌, ◌≤◌, ◌<◌, min, List, [], ◌∷◌, ◌++◌, length, take, drop, get_or, set, replicate, refl, sym, ap, subst, ◌∙◌, arith, append_assoc, length-append}
 use Rattle.std.proofs.lemmas.List.{take_at, drop_at, length-take-le, length-drop, take-append-drop, take-append-le, drop-append-le, drop-drop, take_more_set, append-nil, take_all, drop_more, set_split, set-get_or, length-set, length-replicate, replicate-append-replicate}
+use Rattle.std.proofs.lemmas.Bool.{and_from, and_parts}
 use Rattle.std.proofs.Math.Nat.{mul-zero}
 use Rattle.std.proofs.Math.Seq.{take-add}
 use Rattle.std.specs.Int.{div_ceil}
@@ -204,23 +205,12 @@ cuts_within old k rest size page last full h here short is end whole bytes =
 abbrev same_page : Arc Page Global → Arc Page Global → Bool
 same_page x y = bytes_eq x.value.bytes y.value.bytes
 
-first_true : (s t : Bool) → (s && t) ≡ true → s ≡ true
-first_true true t h = refl
-first_true false t h = h
-
-second_true : (s t : Bool) → (s && t) ≡ true → t ≡ true
-second_true true t h = h
-second_true false t h = cc
-
-both_true : (s t : Bool) → s ≡ true → t ≡ true → (s && t) ≡ true
-both_true s t a b = ap (λ x. x && t) a ∙ b
-
 pub same_from_pointwise : (a b : PageList) → pointwise same_page a b ≡ true → bytes_of a ≡ bytes_of b
 same_from_pointwise [] [] h = refl
 same_from_pointwise [] (y ∷ b) h = cc
 same_from_pointwise (x ∷ a) [] h = cc
 same_from_pointwise (x ∷ a) (y ∷ b) h =
-    ap (λ z. z ++ bytes_of a) ((bytes_eq-Decides x.value.bytes y.value.bytes).0 (first_true _ _ h)) ∙ ap (λ z. y.value.bytes ++ z) (same_from_pointwise a b (second_true _ _ h))
+    ap (λ z. z ++ bytes_of a) ((bytes_eq-Decides x.value.bytes y.value.bytes).0 (and_parts _ _ h).0) ∙ ap (λ z. y.value.bytes ++ z) (same_from_pointwise a b (and_parts _ _ h).1)
 
 pub pointwise_from_same : (a b : PageList) → AreFull a → AreFull b → bytes_of a ≡ bytes_of b → pointwise same_page a b ≡ true
 pointwise_from_same [] [] f g h = refl
@@ -229,4 +219,4 @@ pointwise_from_same (x ∷ a) [] f g h = absurd (omega (arith, f.0, ap length h,
 pointwise_from_same (x ∷ a) (y ∷ b) f g h =
     let head : x.value.bytes ≡ y.value.bytes = sym (take_at x.value.bytes (bytes_of a) PAGE f.0) ∙ ap (λ z. take PAGE z) h ∙ take_at y.value.bytes (bytes_of b) PAGE g.0 in
     let tail : bytes_of a ≡ bytes_of b = sym (drop_at x.value.bytes (bytes_of a) PAGE f.0) ∙ ap (λ z. drop PAGE z) h ∙ drop_at y.value.bytes (bytes_of b) PAGE g.0 in
-    both_true _ _ ((bytes_eq-Decides x.value.bytes y.value.bytes).1 head) (pointwise_from_same a b f.1 g.1 tail)
+    and_from _ _ ((bytes_eq-Decides x.value.bytes y.value.bytes).1 head) (pointwise_from_same a b f.1 g.1 tail)

@@ -32,7 +32,7 @@ use Rattle.vr_rights.proofs.ZipLemmas.{zip_all, zip_map, map_same, All-left, All
 pub record AreKnown (names : List (List ℕ)) (checked : CheckedData) : Type 0 where
   pub identities : All (λ identity. All (λ grant. Contains names grant.0) identity.grants) checked.policy.identities
   pub programs : All (λ program. All (λ grant. Contains names grant.0) program.grants) checked.policy.programs
-  pub pipelines : All (λ pipe. All (Contains names) (programs_of (pipe_tree pipe))) checked.pipes
+  pub pipelines : All (λ pipe. All (Contains names) (programs_of (pipe_tree pipe) ++ tests_of (pipe_tree pipe))) checked.pipes
   pub quotas : All (λ quota. Contains names quota.name) checked.policy.quotas
 
 pub known_names_of : (names : List (List ℕ)) (checked : CheckedData) → All (Contains names) (names_of checked) → AreKnown names checked
@@ -52,10 +52,16 @@ known_names_of names checked h =
           (All-flat known (λ (i : Identity). grant_names i.grants) checked.policy.identities (All-left known of_identities (of_programs ++ from_names) h));
       programs = All-weaker (λ (p : Program). All known (grant_names p.grants)) (λ (p : Program). All (λ grant. known grant.0) p.grants) (λ p k. All-mapped known (λ (g : List ℕ × ℕ). g.0) p.grants k) checked.policy.programs
           (All-flat known (λ (p : Program). grant_names p.grants) checked.policy.programs (All-left known of_programs from_names after_identities));
-      pipelines = All-weaker (λ (p : Tree). All known (programs_of (pipe_tree p) ++ tests_of (pipe_tree p))) (λ (p : Tree). All known (programs_of (pipe_tree p))) (λ p k. All-left known (programs_of (pipe_tree p)) (tests_of (pipe_tree p)) k) checked.pipes
-          (All-flat known (λ (p : Tree). programs_of (pipe_tree p) ++ tests_of (pipe_tree p)) checked.pipes (All-left known of_pipes of_quotas after_pins));
+      pipelines = All-flat known (λ (p : Tree). programs_of (pipe_tree p) ++ tests_of (pipe_tree p)) checked.pipes (All-left known of_pipes of_quotas after_pins);
       quotas = All-mapped known (λ (q : Quota). q.name) checked.policy.quotas (All-right known of_pipes of_quotas after_pins);
     }
+
+-- those of the programs of the pipelines alone
+pub known_programs : (names : List (List ℕ)) (checked : CheckedData) → AreKnown names checked → All (λ pipe. All (Contains names) (programs_of (pipe_tree pipe))) checked.pipes
+known_programs names checked known =
+    let programs = λ (p : Tree). programs_of (pipe_tree p) in
+    let tests = λ (p : Tree). tests_of (pipe_tree p) in
+    All-weaker (λ p. All (Contains names) (programs p ++ tests p)) (λ p. All (Contains names) (programs p)) (λ p k. All-left (Contains names) (programs p) (tests p) k) checked.pipes known.pipelines
 
 -- ---- no two grants of a holder have one name
 

@@ -6,7 +6,7 @@ use Rattle.vr_pipe.specs.Trees.{pipe_tree, programs_of}
 use Rattle.vr_rights.specs.Kept.{ArePlaces, tables_of}
 use Rattle.vr_rights.specs.Tables.{IsRegionsOf}
 use Rattle.vr_rights.proofs.LawLemmas.{one_word}
-use Rattle.vr_rights.proofs.MakingLemmas.{known_names_of, AreParts, parts_keep, parts_tell}
+use Rattle.vr_rights.proofs.MakingLemmas.{known_names_of, known_programs, AreParts, parts_keep, parts_tell}
 use Rattle.vr_rights.proofs.ZipLemmas.{zip_mapped}
 use Rattle.vr_rights.proofs.regions.Regions.new.Goals as goal
 
@@ -25,7 +25,7 @@ words_of-requires-2 c =
 pub program_places-requires : goal.program_places-requires
 program_places-requires c =
     let known = known_names_of c.in_ok-names.names c.args.policy.now (subst (All (Contains c.in_ok-names.names)) c.in_ok-policy_names.ensures c.in_ok-names.ensures.all) in
-    known.pipelines
+    known_programs c.in_ok-names.names c.args.policy.now known
 
 pub least_quotas-requires : goal.least_quotas-requires
 least_quotas-requires c =
