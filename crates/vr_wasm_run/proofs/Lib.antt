@@ -1,5 +1,4 @@
 pub mod AnswerLemmas
-pub mod BeginLemmas
 pub mod CallLemmas
 pub mod ControlLemmas
 pub mod CostLemmas
@@ -13,4 +12,5 @@ pub mod ReachLemmas
 pub mod ReplyLemmas
 pub mod RowLemmas
 pub mod RunLemmas
+pub mod StraightLemmas
 pub mod ThroughLemmas

@@ -44,9 +44,6 @@ pub entered_term : (sort : FuncType) (locals : ℕ) (body : List Instr) (f : ℕ
 unfolding close
 entered_term sort locals body f = refl
 
-pub entered_within : (sort : FuncType) (locals : ℕ) (body : List Instr) → (called outside 0 locals (length sort.results) [] body).layers ≢ []
-entered_within sort locals body e = cc
-
 -- ---- what is still to be called
 
 pub still_one : (f : Option ℕ) → option_to_list f ≡ option_to_list f ++ []

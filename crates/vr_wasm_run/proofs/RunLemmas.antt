@@ -34,7 +34,7 @@ module _ {W : Type 0} where
   over_exit : (c : ℕ) (w : W) → over ≡ exits_with c w → ⊥
   over_exit c w e = cc
 
-  over_trap : (t : ℕ) → ◌≡◌ {A = Next W} over (traps t) → ⊥
+  pub over_trap : (t : ℕ) → ◌≡◌ {A = Next W} over (traps t) → ⊥
   over_trap t e = cc
 
   exit_trap : (c : ℕ) (w : W) (t : ℕ) → exits_with c w ≡ traps t → ⊥
@@ -178,3 +178,54 @@ module _ {W : Type 0} where
       no_end = λ m c w l x. no_end_now k m c w on l x;
       no_trap = λ m t l x. omega (arith, x.count, l);
     }
+
+    -- ---- the same comes next
+
+    -- rows lead to a place where the same comes next as at the other configuration
+    pub record Onward (n : ℕ) (k k' : Config W) : Type 0 where
+      pub rows : ℕ
+      pub last : Config W
+      pub reached : Rows p rows n k last
+      pub same : next p last ≡ next p k'
+      pub world : last.world ≡ k'.world
+
+    pub onward : (r n : ℕ) (k k' : Config W) → Rows p r n k k' → Onward n k k'
+    onward r n k k' rows = record { rows = r; last = k'; reached = rows; same = refl; world = refl }
+
+    -- and on from there
+    pub onward_more : (r n n' : ℕ) (k k' k'' : Config W) → Onward n k k' → Rows p r n' k' k'' → Onward (n + n') k k''
+    unfolding Rows
+    onward_more zero n n' k k' k'' o rows = record {
+      rows = o.rows;
+      last = o.last;
+      reached = subst (λ x. Rows p o.rows x k o.last) (omega (arith, rows.0)) o.reached;
+      same = o.same ∙ ap (next p) rows.1;
+      world = o.world ∙ ap (λ (x : Config W). x.world) rows.1;
+    }
+    onward_more (suc r) n n' k k' k'' o rows =
+        subst (λ x. Onward x k k'') (omega (arith, rows.3))
+        (onward_more r (n + rows.0) rows.1 k rows.2 k'' (onward (suc o.rows) (n + rows.0) k rows.2 (rows_more o.rows n rows.0 k o.last rows.2 o.reached (o.same ∙ rows.4))) rows.5)
+
+    module _ (a b : Config W) (same : next p a ≡ next p b) (world : a.world ≡ b.world) where
+      along : (r n : ℕ) (k : Config W) → Rows p r n a k → Onward n b k
+      along r n k rows =
+          subst (λ x. Onward x b k) (omega arith)
+          (onward_more r 0 n b a k (record { rows = 0; last = b; reached = rows_none b; same = sym same; world = sym world }) rows)
+
+      ends_as : (m c : ℕ) (w : W) → Ends p m a c w → Ends p m b c w
+      ends_as m c w (at_end r last rows o z q) = let t : Onward m b last = along r m last rows in at_end t.rows t.last t.reached (t.same ∙ o) z (q ∙ sym t.world)
+      ends_as m c w (by_exit r before last t rows o) = let u : Onward before b last = along r before last rows in by_exit u.rows before u.last t u.reached (u.same ∙ o)
+
+      traps_as : (m t : ℕ) → Traps p m a t → Traps p m b t
+      traps_as m t x =
+          let u : Onward x.before b x.last = along x.rows x.before x.last x.reached in
+          record { rows = u.rows; before = x.before; last = u.last; count = x.count; reached = u.reached; trap = u.same ∙ x.trap }
+
+      still_as : (n : ℕ) → StillRuns p n b → StillRuns p n a
+      still_as n s = record {
+        no_end = λ m c w few x. s.no_end m c w few (ends_as m c w x);
+        no_trap = λ m t few x. s.no_trap m t few (traps_as m t x);
+      }
+
+    pub still_onward : (used n : ℕ) (k k' : Config W) → Onward used k k' → StillRuns p n k' → StillRuns p (used + n) k
+    still_onward used n k k' o s = still_rows o.rows used n k o.last o.reached (still_as o.last k' o.same o.world n s)

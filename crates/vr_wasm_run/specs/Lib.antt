@@ -6,3 +6,4 @@ pub mod Machines
 pub mod Openings
 pub mod Plain
 pub mod States
+pub mod Stretches

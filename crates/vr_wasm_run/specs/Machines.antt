@@ -1,5 +1,5 @@
 -- A machine as a program and a configuration, and what a step of it is.
-use Rattle.std.specs.Prelude.{ℕ, ◌≡◌, ◌≢◌, ◌≤◌, List, ◌∷◌, ◌++◌, [], Option, option_to_list, map}
+use Rattle.std.specs.Prelude.{ℕ, ◌≡◌, ◌≢◌, ◌≤◌, ◌<◌, List, ◌∷◌, ◌++◌, [], length, Option, option_to_list, map}
 use Rattle.vr_wasm_ast.specs.declared.instr.Instr.{Instr}
 use Rattle.vr_wasm_link.specs.Functions.{function_of}
 use Rattle.vr_wasm_steps.specs.Hosts.{Rose}
@@ -72,14 +72,15 @@ pub record Steps {H W : Type 0} (world : H → W) (stops : H → ℕ) (reply : R
   pub counted : stops m.host ≤ stops m'.host
   pub stopped : progress ≡ Stopped → Rose (stops m.host) (stops m'.host)
 
--- no row came, but where nothing was left a function of the module's own may have been entered
-pub record Begins {H W : Type 0} (world : H → W) (reply : Replies W)
+-- a function of the module's own was entered without a row: the same comes next, and fewer functions
+-- are still to be called from outside
+pub record Enters {H W : Type 0} (world : H → W) (reply : Replies W)
     (m m' : Running H) : Type 0 where
   pub same : next (program_of reply m') (config world m')
       ≡ next (program_of reply m) (config world m)
   pub program : program_of reply m' ≡ program_of reply m
   pub host : m'.host ≡ m.host
-  pub inside : m'.state.stacks.code ≡ [] → m'.state.stacks.layers ≢ []
+  pub fewer : length (pending m') < length (pending m)
 
 -- each function can be called, and the program is never lost
 pub record IsFit {H W : Type 0} (finds : Finds) (world : H → W) (reply : Replies W)

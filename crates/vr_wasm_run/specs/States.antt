@@ -1,5 +1,5 @@
 -- What a running program keeps, and what an instruction that stays in its sequence makes of it.
-use Rattle.std.specs.Prelude.{ℕ, ◌+◌, ◌≡◌, ◌≢◌, ◌≤◌, ◌<◌, length, Result, Ok, Err, Option, Some}
+use Rattle.std.specs.Prelude.{ℕ, ◌+◌, ◌≡◌, ◌≢◌, ◌≤◌, ◌<◌, length, Result, Ok, Err, Option, Some, None}
 use Rattle.vr_wasm_ast.specs.declared.opcodes.NumericFamily.{NumericFamily}
 use Rattle.vr_wasm_ast.specs.declared.opcodes.NumericFamily.TheVariants.{Conversion}
 use Rattle.vr_wasm_ast.specs.Instructions.{Instruction}
@@ -10,8 +10,10 @@ use Rattle.vr_wasm_steps.specs.Effects.{Effect, leaves, trapped, stuck, effect}
 use Rattle.vr_wasm_steps.specs.Store.{Store}
 use Rattle.vr_wasm_steps.specs.Terms.{slots}
 use Rattle.vr_wasm_stacks.specs.Positions.{term_of}
+use Rattle.vr_wasm_run.specs.Plain.{IsPlain}
 use Rattle.vr_wasm_run.specs.declared.state.State.{State}
 
+-- the memory, the table and the globals
 abbrev pub store_of : State → Store
 store_of s = record { memory = s.memory; table = s.table.items; globals = s.globals.items }
 
@@ -43,6 +45,12 @@ Makes s (trapped kind) (Ok n) s' = ⊥
 Makes s (trapped kind) (Err trap) s' = trap.kind ≡ kind
 Makes s stuck result s' = Unit {0}
 
+-- the same of an instruction that stays in its sequence; one that leaves it does nothing here
+abbrev pub Applies : State → Instruction → Option (Result ℕ Trap) → State → Type 0
+Applies s i (Some result) s' = IsPlain i × Makes s (effect_of s i) result s'
+Applies s i None s' = (IsPlain i → ⊥) × (s' ≡ s)
+
+-- the operations of the family turn a number into one of another type or width
 abbrev pub IsConversion : Option NumericFamily → Type 0
 IsConversion (Some (Conversion from to)) = Unit {0}
 IsConversion f = ⊥

@@ -13,6 +13,7 @@ ghost use Rattle.vr_wasm_run.specs.Machines.{config, program_of};
 use crate::progress::Progress;
 use crate::running::Running;
 use crate::state::State;
+use crate::stretch::Stretch;
 use std::alloc::Global;
 use std::marker::Model;
 use vr_wasm_link::{Linked, Opened};
@@ -147,8 +148,23 @@ fn go_on<'m, H: Host>(running: Running<'m, H>, fuel: u64) -> (End, H)
 {
     let mut running = running;
     let mut left = fuel;
-    while left > 0 {
-        match running.step() {
+    'going: loop {
+        match running.straight(left) {
+            Stretch::Through(after) => left = after,
+            Stretch::Trapped { kind, left } => {
+                let used = fuel - left + 1;
+                return (End::Trapped { kind, used }, running.into_host());
+            }
+            Stretch::Short => return (End::OutOfFuel, running.into_host()),
+        }
+        if left == 0 {
+            break;
+        }
+        let progress = match running.step() {
+            Some(progress) => progress,
+            None => continue,
+        };
+        match progress {
             Progress::Went(cost) => {
                 if cost > left {
                     return (End::OutOfFuel, running.into_host());

@@ -1,4 +1,4 @@
-//! One step of a running program.
+//! The steps of a running program that leave their sequence.
 
 ghost use Rattle.std.specs.Prelude.{◌≡◌, ◌≢◌, ◌↔◌, ◌==◌, ◌++◌, [], IsTrue, None, Some};
 ghost use Rattle.std.specs.Prelude.{if◌then◌else◌, option_to_list, slice_get, unwrap_or};
@@ -7,11 +7,11 @@ ghost use Rattle.vr_wasm_ast.specs.Instructions.{instruction_of};
 ghost use Rattle.vr_wasm_ast.specs.declared.instr.Instr.TheVariants as tree;
 ghost use Rattle.vr_wasm_steps.specs.Rows.{arity, next, over, type_of};
 ghost use Rattle.vr_wasm_link.specs.Functions.{function_of};
-ghost use Rattle.vr_wasm_run.specs.Machines.{Begins, IsLive, Stands, StandsAtEnd, Steps};
+ghost use Rattle.vr_wasm_run.specs.Machines.{Enters, IsLive, Stands, StandsAtEnd, Steps};
 ghost use Rattle.vr_wasm_run.specs.Machines.{config, program_of, waiting};
 ghost use Rattle.vr_wasm_stacks.specs.Positions.{IsRooted};
 ghost use Rattle.vr_wasm_run.specs.Calls.{AreCallable};
-ghost use Rattle.vr_wasm_run.specs.Plain.{IsPlain};
+ghost use Rattle.vr_wasm_run.specs.Plain.{IsPlain, IsStretchEnd};
 
 use crate::calls::{enter_outside, invoke};
 use crate::progress::Progress;
@@ -36,21 +36,6 @@ pub struct Running<'m, H> {
 }
 
 impl<'m, H: Host> Running<'m, H> {
-    /// An instruction that stays in its sequence.
-    fn plain(&mut self, instr: &'m Instr, rest: &'m [Instr]) -> Progress
-        requires stands { Stands H.world H.reply self.old instr.now rest.now }
-        requires plain { IsPlain (instruction_of instr.now) }
-        ensures { Steps H.world H.stops H.reply self.old result self.new }
-    {
-        match self.state.apply(instr) {
-            Ok(cost) => {
-                self.state.stacks.advance(rest);
-                Progress::Went(cost)
-            }
-            Err(trap) => Progress::Trapped(trap.kind),
-        }
-    }
-
     fn block(
         &mut self,
         instr: &'m Instr,
@@ -233,19 +218,6 @@ impl<'m, H: Host> Running<'m, H> {
         }
     }
 
-    /// The instruction that comes next, which these follow.
-    fn instruction(&mut self, instr: &'m Instr, rest: &'m [Instr]) -> Progress
-        requires stands { Stands H.world H.reply self.old instr.now rest.now }
-        requires callable { AreCallable H.finds (program_of H.reply self.old).functions }
-        ensures { Steps H.world H.stops H.reply self.old result self.new }
-    {
-        if is_plain(instr) {
-            self.plain(instr, rest)
-        } else {
-            self.leap(instr, rest)
-        }
-    }
-
     /// Calls the next function from outside, where nothing is left of the one before. One of the
     /// module's own is only entered.
     fn outside(&mut self) -> Option<Progress>
@@ -255,7 +227,7 @@ impl<'m, H: Host> Running<'m, H> {
         requires live { IsLive H.finds H.world H.reply self.old }
         ensures stepped { IfSome result (λ progress.
             Steps H.world H.stops H.reply self.old progress self.new) }
-        ensures begun { IfNone result (Begins H.world H.reply self.old self.new) }
+        ensures entered { IfNone result (Enters H.world H.reply self.old self.new) }
     {
         let at = match take_waiting(&mut self.first, &mut self.main) {
             Some(at) => at,
@@ -275,47 +247,24 @@ impl<'m, H: Host> Running<'m, H> {
         }
     }
 
-    /// Enters the next function from outside, where nothing is left of the one before: the step
-    /// that this came to, or `None` where it is still to come.
-    fn begin(&mut self) -> Option<Progress>
+    /// One step from the end of a sequence, or from an instruction that leaves it; `None` where a
+    /// function was entered from outside, which is no step.
+    pub fn step(&mut self) -> Option<Progress>
+        requires leaves { IsStretchEnd self.old.state.stacks.code }
         requires live { IsLive H.finds H.world H.reply self.old }
         ensures stepped { IfSome result (λ progress.
             Steps H.world H.stops H.reply self.old progress self.new) }
-        ensures begun { IfNone result (Begins H.world H.reply self.old self.new) }
+        ensures entered { IfNone result (Enters H.world H.reply self.old self.new) }
     {
         match self.state.stacks.code() {
+            [instr, rest @ ..] => Some(self.leap(instr, rest)),
             [] => {
                 if self.state.stacks.is_outside() {
                     self.outside()
                 } else {
-                    None
+                    Some(self.leave())
                 }
             }
-            _ => None,
-        }
-    }
-
-    /// The instruction that comes next, or the end of the block or the function.
-    fn inside(&mut self) -> Progress
-        requires inside { self.old.state.stacks.code ≡ [] → self.old.state.stacks.layers ≢ [] }
-        requires live { IsLive H.finds H.world H.reply self.old }
-        ensures { Steps H.world H.stops H.reply self.old result self.new }
-    {
-        match self.state.stacks.code() {
-            [instr, rest @ ..] => self.instruction(instr, rest),
-            [] => self.leave(),
-        }
-    }
-
-    /// One step. An instruction is carried out at one place alone: so the compiler makes it a part of
-    /// the loop over the steps, and its result needs no place in memory.
-    pub fn step(&mut self) -> Progress
-        requires { IsLive H.finds H.world H.reply self.old }
-        ensures { Steps H.world H.stops H.reply self.old result self.new }
-    {
-        match self.begin() {
-            Some(progress) => progress,
-            None => self.inside(),
         }
     }
 
@@ -377,18 +326,6 @@ fn is_none_waiting(first: Option<u32>, main: Option<u32>) -> bool
     ensures { IsTrue result ↔ (waiting first main ≡ []) }
 {
     first.is_none() && main.is_none()
-}
-
-/// Whether the instruction stays in its sequence.
-fn is_plain(instr: &Instr) -> bool
-    ensures { IsTrue result ↔ IsPlain (instruction_of instr.now) }
-{
-    match instr {
-        Instr::Block(..) | Instr::Loop(..) | Instr::If(..) => false,
-        Instr::Br(..) | Instr::BrIf(..) | Instr::BrTable(..) => false,
-        Instr::Return | Instr::Call(..) | Instr::CallIndirect(..) => false,
-        _ => true,
-    }
 }
 
 /// How many results a block of this type has.

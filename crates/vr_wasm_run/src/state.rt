@@ -29,7 +29,8 @@ impl<'m> State<'m> {
     ghost use Rattle.vr_wasm_ast.specs.Instructions.{memory_size, memory_grow, memory_copy};
     ghost use Rattle.vr_wasm_ast.specs.Instructions.{memory_fill, i32_const, i64_const, numeric};
     ghost use Rattle.vr_wasm_ast.specs.Instructions.{load, store, instruction_of};
-    ghost use Rattle.vr_wasm_run.specs.States.{Ready, Makes, effect_of, IsConversion};
+    ghost use Rattle.vr_wasm_run.specs.Plain.{IsPlain};
+    ghost use Rattle.vr_wasm_run.specs.States.{Ready, Makes, Applies, effect_of, IsConversion};
     ghost use Rattle.vr_wasm_ast.specs.Opcodes.{numeric_of};
     ghost use Rattle.std.specs.Prelude.{◌≡◌, Some};
 
@@ -402,33 +403,35 @@ impl<'m> State<'m> {
         }
     }
 
-    /// An instruction that stays in its sequence: the cost of the row, or the trap.
-    pub fn apply(&mut self, instr: &Instr) -> Result<u64, Trap>
-        requires ready { Ready self.old (instruction_of instr.now) }
-        ensures { Makes self.old (effect_of self.old (instruction_of instr.now)) result self.new }
+    /// An instruction that stays in its sequence: the cost of the row, or the trap. Nothing is done
+    /// for one that leaves it.
+    pub fn apply(&mut self, instr: &Instr) -> Option<Result<u64, Trap>>
+        requires ready { IsPlain (instruction_of instr.now)
+            → Ready self.old (instruction_of instr.now) }
+        ensures { Applies self.old (instruction_of instr.now) result self.new }
     {
         match instr {
-            Instr::Unreachable => Err(Trap { kind: UNREACHABLE }),
-            Instr::Nop => self.nop(),
-            Instr::Drop => self.discard(),
-            Instr::Select => self.select(),
-            Instr::LocalGet(at) => self.local_get(*at),
-            Instr::LocalSet(at) => self.local_set(*at),
-            Instr::LocalTee(at) => self.local_tee(*at),
-            Instr::GlobalGet(at) => self.global_get(*at),
-            Instr::GlobalSet(at) => self.global_set(*at),
-            Instr::Load(op, exponent, offset) => self.load(*op, *exponent, *offset),
-            Instr::Store(op, exponent, offset) => self.store(*op, *exponent, *offset),
-            Instr::MemorySize => self.memory_size(),
-            Instr::MemoryGrow => self.memory_grow(),
-            Instr::MemoryCopy => self.memory_copy(),
-            Instr::MemoryFill => self.memory_fill(),
-            Instr::I32Const(value) => self.i32_const(*value),
-            Instr::I64Const(value) => self.i64_const(*value),
-            Instr::Numeric(op) => self.numeric(*op),
-            Instr::Block(..) | Instr::Loop(..) | Instr::If(..) => unreachable!(),
-            Instr::Br(..) | Instr::BrIf(..) | Instr::BrTable(..) => unreachable!(),
-            Instr::Return | Instr::Call(..) | Instr::CallIndirect(..) => unreachable!(),
+            Instr::Unreachable => Some(Err(Trap { kind: UNREACHABLE })),
+            Instr::Nop => Some(self.nop()),
+            Instr::Drop => Some(self.discard()),
+            Instr::Select => Some(self.select()),
+            Instr::LocalGet(at) => Some(self.local_get(*at)),
+            Instr::LocalSet(at) => Some(self.local_set(*at)),
+            Instr::LocalTee(at) => Some(self.local_tee(*at)),
+            Instr::GlobalGet(at) => Some(self.global_get(*at)),
+            Instr::GlobalSet(at) => Some(self.global_set(*at)),
+            Instr::Load(op, exponent, offset) => Some(self.load(*op, *exponent, *offset)),
+            Instr::Store(op, exponent, offset) => Some(self.store(*op, *exponent, *offset)),
+            Instr::MemorySize => Some(self.memory_size()),
+            Instr::MemoryGrow => Some(self.memory_grow()),
+            Instr::MemoryCopy => Some(self.memory_copy()),
+            Instr::MemoryFill => Some(self.memory_fill()),
+            Instr::I32Const(value) => Some(self.i32_const(*value)),
+            Instr::I64Const(value) => Some(self.i64_const(*value)),
+            Instr::Numeric(op) => Some(self.numeric(*op)),
+            Instr::Block(..) | Instr::Loop(..) | Instr::If(..) => None,
+            Instr::Br(..) | Instr::BrIf(..) | Instr::BrTable(..) => None,
+            Instr::Return | Instr::Call(..) | Instr::CallIndirect(..) => None,
         }
     }
 }

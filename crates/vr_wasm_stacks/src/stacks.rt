@@ -290,8 +290,9 @@ fn push_zeros(values: &mut Vec<u64>, count: usize)
     ensures items { values.new.items ≡ values.old.items ++ replicate count 0 }
     ensures capacity { vec_capacity values.old ≤ vec_capacity values.new }
 {
-    let size = values.len() + count;
-    values.resize(size, 0).unwrap();
+    for _ in 0..count {
+        values.push_reserved(0);
+    }
 }
 
 /// Keeps the first values up to the base, and the last ones.

@@ -2,12 +2,12 @@ use Rattle.std.proofs.Common.{◌≡◌, ◌≢◌, ◌<◌, [], length, slice_g
 use Rattle.vr_wasm_ast.specs.Instructions.{instructions_of}
 use Rattle.vr_wasm_link.specs.Functions.{function_of}
 use Rattle.vr_wasm_steps.specs.Rows.{own, outside as of_host, called_from_outside, entry, lost, next}
-use Rattle.vr_wasm_stacks.specs.Positions.{Position, term_of, outside}
+use Rattle.vr_wasm_stacks.specs.Positions.{term_of, outside}
 use Rattle.vr_wasm_run.specs.Calls.{HasArguments, IsCallable, IsCalled}
 use Rattle.vr_wasm_run.specs.Configs.{config_of}
 use Rattle.vr_wasm_run.specs.Machines.{IsRow, program_of, config, waiting}
 use Rattle.vr_wasm_run.proofs.FunctionLemmas.{function_at, function_within}
-use Rattle.vr_wasm_run.proofs.OutsideLemmas.{entered_term, entered_within, outside_over, outside_next, outside_found, host_arguments, host_row, arguments_here, called_there}
+use Rattle.vr_wasm_run.proofs.OutsideLemmas.{entered_term, outside_over, outside_next, outside_found, host_arguments, host_row, arguments_here, called_there}
 use Rattle.vr_wasm_run.proofs.ProgressLemmas.{as_many, over_itself}
 use Rattle.vr_wasm_run.proofs.running.Running.outside.Goals as goal
 
@@ -49,8 +49,8 @@ enter_outside-requires-clause-locals g c =
     let fits : IsCallable g.H.Host.finds (own c.in-Own.sort.now c.in-Own.locals (instructions_of c.in-Own.body.now)) = subst (IsCallable g.H.Host.finds) is can in
     fits.1
 
-pub returns-in-Own-clause-begun : goal.returns-in-Own-clause-begun
-returns-in-Own-clause-begun g c =
+pub returns-in-Own-clause-entered : goal.returns-in-Own-clause-entered
+returns-in-Own-clause-entered g c =
     let into : next (program_of g.H.Host.reply c.args.self.now) (config g.H.Host.world c.args.self.now) ≡ next (program_of g.H.Host.reply c.args.self.now) (entry (program_of g.H.Host.reply c.args.self.now) (config g.H.Host.world c.args.self.now) c.in-Some.at (waiting c.take_waiting.new.first c.take_waiting.new.main)) = outside_next (program_of g.H.Host.reply c.args.self.now) (config g.H.Host.world c.args.self.now) c.args.self.now.state.stacks refl c.requires.rooted c.requires.ended c.requires.outside c.in-Some.at (waiting c.take_waiting.new.first c.take_waiting.new.main) c.in-Some.ensures.waiting in
     let live : next (program_of g.H.Host.reply c.args.self.now) (entry (program_of g.H.Host.reply c.args.self.now) (config g.H.Host.world c.args.self.now) c.in-Some.at (waiting c.take_waiting.new.first c.take_waiting.new.main)) ≢ lost = λ e. c.requires.live.live (into ∙ e) in
     let place : c.in-Some.at < length c.args.self.now.functions.items = function_within c.args.self.now.functions.items c.in-Some.at (outside_found (program_of g.H.Host.reply c.args.self.now) (config g.H.Host.world c.args.self.now) c.in-Some.at (waiting c.take_waiting.new.first c.take_waiting.new.main) live) in
@@ -67,7 +67,7 @@ returns-in-Own-clause-begun g c =
       same = sym same;
       program = refl;
       host = refl;
-      inside = λ _ e. absurd (entered_within c.in-Own.sort.now c.in-Own.locals c.in-Own.body.now (sym (ap (λ (z : Position). z.layers) c.enter_outside.ensures) ∙ e));
+      fewer = omega (arith, ap length c.in-Some.ensures.waiting);
     }
 
 pub invoke-requires-clause-callable : goal.invoke-requires-clause-callable

@@ -1,0 +1,8 @@
+use Rattle.std.proofs.Common.{◌≡◌, ◌++◌, replicate, vec_capacity}
+use Rattle.vr_wasm_stacks.proofs.stacks.push_zeros.Given as goal
+
+abbrev pub invariant-loop : goal.invariant-loop
+invariant-loop l = record {
+  items : l.values.items ≡ l.fn.values.items ++ replicate l.counter 0;
+  capacity : vec_capacity l.values ≡ vec_capacity l.fn.values;
+}
