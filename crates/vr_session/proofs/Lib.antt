@@ -1,4 +1,5 @@
 mod Asking
+pub mod ComingBack
 mod Sending
 pub mod Seating
 mod Settling

@@ -1,7 +1,9 @@
 -- What all sessions of a porch came to.
-use Rattle.std.proofs.Common.{◌≡◌, ◌≤◌, inl, inr, ⊎_elim, ℕ, Bool, true, false, List, [], Option, None, Some, Result, Ok, Err, refl, sym, arith, get_or, subst}
+use Rattle.std.proofs.Common.{◌≡◌, ◌≤◌, ◌+◌, ◌∙◌, inl, inr, ⊎_elim, ℕ, Bool, true, false, List, [], Option, None, Some, Result, Ok, Err, refl, sym, ap, arith, get_or, subst}
 use Rattle.std.specs.Option.{IfSome}
+use Rattle.std.specs.Prelude.{OnOk}
 use Rattle.std.proofs.Math.Logic.{∥∥₁_map}
+use Rattle.vr_base.specs.Causes.{HasCauseOf, Rose}
 use Rattle.vr_base.specs.Links.{EndedLink}
 use Rattle.vr_base.specs.declared.calls.Entry.{Entry}
 use Rattle.vr_face.specs.Doors.{Attends, desk_state, says_want}
@@ -10,6 +12,10 @@ use Rattle.vr_face.specs.declared.doors.AttendFault.{AttendFault}
 use Rattle.vr_face.specs.declared.doors.AttendFault.TheVariants.{Failed, OutOfMemory}
 use Rattle.vr_face.specs.declared.keys.Keys.{Keys}
 use Rattle.vr_face.proofs.DoorLemmas.{attends_none}
+use Rattle.vr_turn.specs.Seats.{gave, given, longer}
+use Rattle.vr_turn.specs.Turns.{IsJoined}
+use Rattle.vr_turn.specs.declared.views.Knowledge.{Knowledge}
+use Rattle.vr_session.proofs.Seating.{longer_none}
 use Rattle.vr_session.specs.Workers.{AttendsAlone, joint_answer}
 
 -- ---- the joint answer
@@ -18,6 +24,30 @@ use Rattle.vr_session.specs.Workers.{AttendsAlone, joint_answer}
 pub wanted_jointly : (wanted failed : Bool) (last : Result (Unit {0}) AttendFault) → wanted ≡ true → says_want (joint_answer wanted failed last) ≡ true
 wanted_jointly true failed last e = refl
 wanted_jointly false failed last e = absurd (let none : ⊥ = cc in none)
+
+-- all was handed out where no session and no accept failed
+pub jointly_counted : (wanted failed : Bool) (last : Result (Unit {0}) AttendFault) (left handed whole : ℕ) → OnOk last (left ≡ 0) → (failed ≡ false → handed + left ≡ whole)
+    → OnOk (joint_answer wanted failed last) (handed ≡ whole)
+jointly_counted true failed last left handed whole over together = tt
+jointly_counted false failed (Err fault) left handed whole over together = tt
+jointly_counted false true (Ok x) left handed whole over together = tt
+jointly_counted false false (Ok x) left handed whole over together = let sum : handed + left ≡ whole = together refl in omega (arith, over, sum)
+
+-- an accept failed, first or last
+pub jointly_failed : (wanted failed : Bool) (last : Result (Unit {0}) AttendFault) (before now : ℕ) → before ≤ now → (failed ≡ true → Rose before now) → (last ≡ Err Failed → Rose before now)
+    → HasCauseOf Failed before now (joint_answer wanted failed last)
+jointly_failed wanted failed last before now later first then = record { later = later; failed = by_parts wanted failed last first then }
+  where
+    by_parts : (wanted failed : Bool) (last : Result (Unit {0}) AttendFault) → (failed ≡ true → Rose before now) → (last ≡ Err Failed → Rose before now)
+        → joint_answer wanted failed last ≡ Err Failed → Rose before now
+    by_parts true failed last first then e = cc (e)
+    by_parts false failed (Err fault) first then e = then e
+    by_parts false true (Ok x) first then e = first refl
+    by_parts false false (Ok x) first then e = cc (e)
+
+-- a count that rose after it had not fallen
+pub rose_since : (opening before now : ℕ) → opening ≤ before → Rose before now → Rose opening now
+rose_since opening before now first rose = omega (arith, first, rose)
 
 -- ---- lists of connections
 
@@ -86,3 +116,21 @@ alone_within keys old (Some list) handed_old handed_new before within now journa
   within = omega (arith, h.within, below);
   memory = λ e. also (h.memory e);
 }
+
+-- what the seat that was split off served, which was taken in then
+pub alone_joined : (keys : Keys) (ended_old ended_new : Option (List EndedLink)) (handed_old handed_new : ℕ) (old left own own_back new : Knowledge) (answer : Result (Unit {0}) AttendFault)
+    → (old.next ≡ 1) × (old.seen ≡ []) → left ≡ gave old → own ≡ given old → IsJoined left own_back new
+    → IfSome ended_new (λ list. Attends keys own.number ended_old list (Some handed_old) (Some handed_new) (desk_state own.seen own.faults) (desk_state own_back.seen own_back.faults) (says_want answer))
+    → IfSome ended_new (λ list. AttendsAlone keys ended_old list handed_old handed_new old.faults new.faults new.seen answer)
+alone_joined keys ended_old ended_new handed_old handed_new old left own own_back new answer first is_left is_own joins h =
+    let grown = ap (λ (k : Knowledge). k.faults) joins.knows in
+    let number : own.number ≡ 1 = ap (λ (k : Knowledge). k.number) is_own ∙ first.0 in
+    let seen : own.seen ≡ [] = ap (λ (k : Knowledge). k.seen) is_own ∙ first.1 in
+    let faults : own.faults ≡ old.faults = ap (λ (k : Knowledge). k.faults) is_own in
+    let none : left.seen ≡ [] = ap (λ (k : Knowledge). k.seen) is_left ∙ first.1 in
+    let journal : own_back.seen ≡ new.seen =
+    sym (ap (λ (k : Knowledge). k.seen) joins.knows ∙ (ap (λ (s : List Entry). longer s own_back.seen) none ∙ longer_none own_back.seen)) in
+    alone keys ended_old ended_new handed_old handed_new old.faults new.faults own_back.faults new.seen answer (omega (arith, grown))
+    (subst (λ (p : ℕ × List Entry × ℕ × List Entry).
+    IfSome ended_new (λ list. Attends keys p.0 ended_old list (Some handed_old) (Some handed_new) (desk_state p.1 p.2) (desk_state p.3 own_back.faults) (says_want answer)))
+    (λ i. (number i, seen i, faults i, journal i)) h)

@@ -1,2 +1,3 @@
+pub mod Attendings
 pub mod SharedBooks
 pub mod Workers

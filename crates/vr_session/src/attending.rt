@@ -1,13 +1,8 @@
 //! A book that a listener's connections are served from, by workers, and what comes back of both.
-ghost use Rattle.std.specs.List.{All};
-ghost use Rattle.std.specs.Prelude.{◌≡◌, ◌≤◌, ◌+◌, ◌<◌, true, [], length, Ok, Err, IfSome, OnOk};
-ghost use Rattle.vr_base.specs.Causes.{HasCauseOf, Rose};
-ghost use Rattle.vr_core.specs.History.{IsBook};
-ghost use Rattle.vr_core.specs.Isolation.{IsIsolatedHistory};
-ghost use Rattle.vr_face.specs.Doors.{says_want};
-ghost use Rattle.vr_face.specs.Porches.{KeepsServed};
-ghost use Rattle.vr_turn.specs.Rule.{HasNone};
-ghost use Rattle.vr_session.specs.Workers.{AttendsAlone, IsSeatOf, Regains, joint_answer};
+ghost use Rattle.std.specs.Prelude.{◌≡◌, ◌≤◌, ◌+◌, ◌<◌, [], Err, IfSome, OnOk};
+ghost use Rattle.vr_base.specs.Causes.{Rose};
+ghost use Rattle.vr_session.specs.Attendings.{ComesBack, IsAttended, ServesByOne, ServesPorch, told};
+ghost use Rattle.vr_session.specs.Workers.{AttendsAlone, IsSeatOf, joint_answer};
 
 use crate::shared::Shared;
 use crate::shared_book::SharedBook;
@@ -50,11 +45,9 @@ fn settle<L: Listener + Drop, O: Opening>(
     ensures listener { result.1 ≡ porch.listener }
     ensures memory { last ≡ Err AttendFault.OutOfMemory
         → result.0 ≡ Err AttendFault.OutOfMemory }
-    ensures count { OnOk result.0 (L.handed_out result.1 ≡ O.handed_out + O.left) }
-    ensures most { L.handed_out result.1 ≤ O.handed_out + O.left }
-    ensures listens { L.listens result.1 ≡ O.listens }
-    ensures served { KeepsServed O.ended (L.ended result.1) (says_want result.0) }
-    ensures cause { HasCauseOf AttendFault.Failed O.faults (L.faults result.1) result.0 }
+    ensures attended { IsAttended O.left result.0
+        (told O.listens O.handed_out O.ended O.faults)
+        (told (L.listens result.1) (L.handed_out result.1) (L.ended result.1) (L.faults result.1)) }
 {
     let answer = joint_answer(porch.wanted(), porch.failed(), last);
     (answer, porch.into_listener())
@@ -77,16 +70,11 @@ fn serve_alone<R: Wait, L: Listener + Drop, O: Opening, K: Keeper, G: Gate + Dro
     requires seat { IsSeatOf shared.now.turn seat }
     requires room { seat.knows.next < seat.knows.end }
     requires first { (seat.knows.next ≡ 1) × (seat.knows.seen ≡ []) }
-    ensures seat { IsSeatOf shared.now.turn result.2 }
-    ensures regains { Regains seat.knows result.2.knows }
-    ensures over { OnOk result.0 (result.1.left ≡ 0) }
-    ensures risen { result.0 ≡ Err AttendFault.Failed
-        → Rose O.faults (L.faults result.1.listener) }
-    ensures apart { HasNone seat.knows.number result.2.knows.seen }
-    ensures alone { IfSome (L.ended result.1.listener) (λ list. AttendsAlone keys.now
-        (L.ended porch.listener) list (L.handed_out porch.listener)
-        (L.handed_out result.1.listener) seat.knows.faults result.2.knows.faults
-        result.2.knows.seen result.0) }
+    ensures porch { ServesPorch shared.now.turn seat result.2 result.0 result.1.left
+        O.faults (L.faults result.1.listener) }
+    ensures one { ServesByOne keys.now seat.knows result.2.knows result.0
+        (L.ended porch.listener) (L.ended result.1.listener)
+        (L.handed_out porch.listener) (L.handed_out result.1.listener) }
 {
     let mut porch = porch;
     let mut seat = seat;
@@ -125,11 +113,8 @@ where
     L::Conn: Send,
     requires seat { IsSeatOf shared.now.turn seat }
     requires room { seat.knows.next + workers ≤ seat.knows.end }
-    ensures seat { IsSeatOf shared.now.turn result.2 }
-    ensures regains { Regains seat.knows result.2.knows }
-    ensures over { OnOk result.0 (result.1.left ≡ 0) }
-    ensures risen { result.0 ≡ Err AttendFault.Failed
-        → Rose O.faults (L.faults result.1.listener) }
+    ensures porch { ServesPorch shared.now.turn seat result.2 result.0 result.1.left
+        O.faults (L.faults result.1.listener) }
 {
     let porch = Mutex::new(porch);
     let worker = Worker {
@@ -175,16 +160,11 @@ where
     requires seat { IsSeatOf shared.now.turn seat }
     requires room { seat.knows.next + workers ≤ seat.knows.end }
     requires first { (seat.knows.next ≡ 1) × (seat.knows.seen ≡ []) }
-    ensures seat { IsSeatOf shared.now.turn result.2 }
-    ensures regains { Regains seat.knows result.2.knows }
-    ensures over { OnOk result.0 (result.1.left ≡ 0) }
-    ensures risen { result.0 ≡ Err AttendFault.Failed
-        → Rose O.faults (L.faults result.1.listener) }
-    ensures apart { workers ≡ 1 → HasNone seat.knows.number result.2.knows.seen }
-    ensures alone { workers ≡ 1 → IfSome (L.ended result.1.listener) (λ list. AttendsAlone keys.now
-        (L.ended porch.listener) list (L.handed_out porch.listener)
-        (L.handed_out result.1.listener) seat.knows.faults result.2.knows.faults
-        result.2.knows.seen result.0) }
+    ensures porch { ServesPorch shared.now.turn seat result.2 result.0 result.1.left
+        O.faults (L.faults result.1.listener) }
+    ensures one { workers ≡ 1 → ServesByOne keys.now seat.knows result.2.knows result.0
+        (L.ended porch.listener) (L.ended result.1.listener)
+        (L.handed_out porch.listener) (L.handed_out result.1.listener) }
 {
     if workers == 1 {
         serve_alone(rt, alloc, shared, keys, porch, seat)
@@ -219,20 +199,13 @@ where
     requires faults { L.faults listener ≡ O.faults }
     requires listens { L.listens listener ≡ O.listens }
     requires ended { L.ended listener ≡ O.ended }
-    ensures book { IsBook K.rows K.is_loaded result.2 }
-    ensures origin { result.2.origin ≡ book.origin }
-    ensures isolated { IsIsolatedHistory result.2.origin result.2.journal }
-    ensures numbered { All (λ entry. entry.seat ≤ workers) result.2.journal }
-    ensures alone { workers ≡ 1 → All (λ entry. entry.seat ≡ 1) result.2.journal }
-    ensures keeper { K.faults book.keeper ≤ K.faults result.2.keeper }
-    ensures listens { L.listens result.1 ≡ O.listens }
-    ensures count { OnOk result.0 (L.handed_out result.1 ≡ O.handed_out + O.left) }
-    ensures most { L.handed_out result.1 ≤ O.handed_out + O.left }
-    ensures served { KeepsServed O.ended (L.ended result.1) (says_want result.0) }
+    ensures book { ComesBack K.rows K.is_loaded K.faults workers book result.2 }
+    ensures listener { IsAttended O.left result.0
+        (told O.listens O.handed_out O.ended O.faults)
+        (told (L.listens result.1) (L.handed_out result.1) (L.ended result.1) (L.faults result.1)) }
     ensures one { workers ≡ 1 → IfSome (L.ended result.1) (λ list. AttendsAlone keys.now
         O.ended list O.handed_out (L.handed_out result.1)
         (K.faults book.keeper) (K.faults result.2.keeper) result.2.journal result.0) }
-    ensures cause { HasCauseOf AttendFault.Failed O.faults (L.faults result.1) result.0 }
 {
     let (shared, seat) = match Shared::new(alloc, book, gate, workers + 1) {
         Ok(made) => made,
@@ -271,21 +244,13 @@ where
     L::Conn: Send,
     requires empty { book.journal ≡ [] }
     requires workers { (1 ≤ workers) × (workers ≤ 16) }
-    ensures book { IsBook K.rows K.is_loaded result.2 }
-    ensures origin { result.2.origin ≡ book.origin }
-    ensures isolated { IsIsolatedHistory result.2.origin result.2.journal }
-    ensures numbered { All (λ entry. entry.seat ≤ workers) result.2.journal }
-    ensures alone { workers ≡ 1 → All (λ entry. entry.seat ≡ 1) result.2.journal }
-    ensures keeper { K.faults book.keeper ≤ K.faults result.2.keeper }
-    ensures listens { L.listens result.1 ≡ L.listens listener }
-    ensures count { OnOk result.0 (L.handed_out result.1 ≡ L.handed_out listener + sessions) }
-    ensures most { L.handed_out result.1 ≤ L.handed_out listener + sessions }
-    ensures served { KeepsServed (L.ended listener) (L.ended result.1) (says_want result.0) }
+    ensures book { ComesBack K.rows K.is_loaded K.faults workers book result.2 }
+    ensures listener { IsAttended sessions result.0
+        (told (L.listens listener) (L.handed_out listener) (L.ended listener) (L.faults listener))
+        (told (L.listens result.1) (L.handed_out result.1) (L.ended result.1) (L.faults result.1)) }
     ensures one { workers ≡ 1 → IfSome (L.ended result.1) (λ list. AttendsAlone keys.now
         (L.ended listener) list (L.handed_out listener) (L.handed_out result.1)
         (K.faults book.keeper) (K.faults result.2.keeper) result.2.journal result.0) }
-    ensures cause { HasCauseOf AttendFault.Failed (L.faults listener) (L.faults result.1)
-        result.0 }
 {
     attend_from::<R, L, Brand, K, G>(rt, alloc, book, gate, keys, listener, workers, sessions)
 }

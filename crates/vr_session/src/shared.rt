@@ -2,6 +2,7 @@ ghost use Rattle.std.specs.Prelude.{◌≡◌, ◌≤◌, ◌<◌, [], IfOk, IfE
 ghost use Rattle.vr_core.specs.History.{IsBook};
 ghost use Rattle.vr_turn.specs.Seats.{first_knowledge, gave, given};
 ghost use Rattle.vr_turn.specs.Turns.{Closes, HasAll, IsJoined};
+ghost use Rattle.vr_session.specs.Workers.{IsSeatOf};
 
 use crate::shared_book::SharedBook;
 use std::alloc::Global;
@@ -31,6 +32,7 @@ impl<K: Keeper, G: Gate + Drop> Shared<K, G> {
         ensures ok { IfOk result (λ s. (s.0.turn.most ≡ most) × (s.0.turn.first.book ≡ book)
             × (s.1.turn ≡ s.0.turn.id) × (s.0.gate ≡ gate)
             × (s.1.knows ≡ first_knowledge most (K.faults book.keeper))) }
+        ensures first { IfOk result (λ s. IsSeatOf s.0.turn s.1) }
         ensures err { IfErr result (λ e. (e.1 ≡ book) × (e.2 ≡ gate)) }
     {
         match Turn::new(alloc, SharedBook { book }, most) {
