@@ -14,8 +14,9 @@ use std::sync::Wait;
 use std::thread::Threads;
 use usage::usage_text;
 use vr_base::NoGate;
-use vr_cli::{DiskFolder, Status, StdSink, TcpDoor, command, serve};
+use vr_cli::{Status, command, serve};
 use vr_keeper_sql::SqlKeeper;
+use vr_system::{DiskFolder, StdSink, TcpDoor};
 
 /// The words after the program's name. A command line that isn't text is no command's.
 fn words(rt: &HostRuntime) -> Result<Vec<String>, Status>

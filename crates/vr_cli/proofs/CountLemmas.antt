@@ -2,7 +2,7 @@
 use Rattle.std.proofs.Common.{◌≡◌, ◌≤◌, ℕ, ◌&&◌, List, [], ◌∷◌, Option, Some, inl, inr, ap, subst, option_map, arith}
 use Rattle.std.specs.Prelude.{IfSome, is_none}
 use Rattle.std.specs.Str.Parse.{digits_value}
-use Rattle.vr_words.specs.Grammar.{Item, operand, apart, joined, place_after, take_file, take_operand, take_item, take_items, takes_two}
+use Rattle.vr_words.specs.Grammar.{Item, operand, apart, attached, place_after, take_file, take_operand, take_item, take_items, takes_two}
 use Rattle.vr_text.specs.Numerals.{is_numeral}
 use Rattle.vr_words.specs.Numbers.{number_within, is_within}
 use Rattle.vr_words.specs.Options.{Placed, Said, give, is_plain, may_come, take_option}
@@ -60,7 +60,7 @@ taken_option verb said choice word next h = given_count said choice word next (c
 taken_item : (verb : Verb) (place : ℕ) (said : Said) (item : Item) (next : Said) → take_item verb place said item ≡ Some next → HasSmallCount said → HasSmallCount next
 taken_item verb place said (operand word) next h small = taken_operand verb place said word next (chosen (is_plain word) (take_operand verb place said word) next h).1 small
 taken_item verb place said (apart choice value) next h small = same_count said next (taken_option verb said choice value next h) small
-taken_item verb place said (joined choice value) next h small = same_count said next (taken_option verb said choice value next h) small
+taken_item verb place said (attached choice value) next h small = same_count said next (taken_option verb said choice value next h) small
 
 -- items say no other number than one of `make`'s
 pub small_count : (verb : Verb) (place : ℕ) (said : Said) (items : List Item) (last : Said) → take_items verb place said items ≡ Some last → HasSmallCount said → HasSmallCount last

@@ -2,7 +2,7 @@
 use Rattle.std.proofs.Common.{◌≡◌, ◌↔◌, ◌⊎◌, ℕ, ◌&&◌, List, [], ◌∷◌, ◌++◌, length, slice_get, Option, None, Some, Result, Ok, inl, inr, refl, ap, ◌∙◌, sym, subst, append_assoc, length-append, arith, option_map}
 use Rattle.std.specs.List.{flat_map}
 use Rattle.std.specs.Prelude.{IfSome, is_none}
-use Rattle.vr_words.specs.Grammar.{Task, hash, check, flows, make, serve, AskFor, Item, operand, apart, joined, item_words, over_both, place_after, serving, take_file, take_item, take_items, take_operand, takes_two, task_said, verb_name}
+use Rattle.vr_words.specs.Grammar.{Task, hash, check, flows, make, serve, AskFor, Item, operand, apart, attached, item_words, over_both, place_after, serving, take_file, take_item, take_items, take_operand, takes_two, task_said, verb_name}
 use Rattle.vr_words.specs.Numbers.{number_within}
 use Rattle.vr_words.specs.Options.{Placed, Said, give, is_plain, may_come, nothing_said, take_option}
 use Rattle.vr_words.specs.declared.commands.Verb.{Verb}
@@ -71,12 +71,12 @@ module _ (words : List (List ℕ)) where
       let taken = (chosen (is_plain word) (take_operand verb (length before) said word) next h).1 in
       operand_here verb (length before) said word next taken (rw split (seam before word rest)) k
   item_here verb before rest said (apart choice value) next split h k = option_here verb said choice value next h k
-  item_here verb before rest said (joined choice value) next split h k = option_here verb said choice value next h k
+  item_here verb before rest said (attached choice value) next split h k = option_here verb said choice value next h k
 
   place_moves : (before : List (List ℕ)) (item : Item) → length (before ++ item_words item) ≡ place_after (length before) item
   place_moves before (operand word) = simp length-append (omega arith)
   place_moves before (apart choice value) = simp length-append (omega arith)
-  place_moves before (joined choice value) = simp length-append (omega arith)
+  place_moves before (attached choice value) = simp length-append (omega arith)
 
   items_here : (verb : Verb) (before : List (List ℕ)) (place : ℕ) (said : Said) (items : List Item) (last : Said) → length before ≡ place → words ≡ before ++ flat_map item_words items
       → take_items verb place said items ≡ Some last → AreHere said → AreHere last

@@ -1,6 +1,6 @@
 -- How a server ends, from what its parts returned.
 use Rattle.std.proofs.Common.{◌≡◌, ℕ, ◌+◌, ◌≤◌, ◌++◌, Bool, true, false, List, [], take, Option, None, Some, Result, Ok, Err, inl, inr, refl, sym, ap, ◌∙◌, subst, append-nil, arith}
-use Rattle.std.specs.Prelude.{IfSome, IfOk, IsOk, OnOk}
+use Rattle.std.specs.Prelude.{IfSome, IfOk, IsOk, OnErr, OnOk, is_err}
 use Rattle.std.specs.Io.KnownBytes.{Appends}
 use Rattle.std.proofs.Math.Logic.{∥∥₁_map}
 use Rattle.std.proofs.lemmas.List.Elements.{All-nil, All-weaker}
@@ -12,13 +12,16 @@ use Rattle.vr_base.specs.Links.{EndedLink}
 use Rattle.vr_base.specs.Outside.{AppendsPrefix, FolderCounts}
 use Rattle.vr_base.specs.declared.calls.Entry.{Entry}
 use Rattle.vr_face.proofs.DoorLemmas.{attends_none}
+use Rattle.vr_face.proofs.PorchLemmas.{keeps_none}
 use Rattle.vr_face.specs.Doors.{desk_state, says_want}
 use Rattle.vr_face.specs.Porches.{GrowsServed, IsServedLink, KeepsServed}
 use Rattle.vr_face.specs.declared.doors.AttendFault.{AttendFault}
 use Rattle.vr_face.specs.declared.doors.AttendFault.TheVariants as sessions
 use Rattle.vr_face.specs.declared.keys.Keys.{Keys}
 use Rattle.vr_policy_check.specs.Rules.{CheckedData, identity_ids}
+use Rattle.vr_session.specs.Attendings.{IsAttended, ListenerState}
 use Rattle.vr_session.specs.Workers.{AttendsAlone}
+use Rattle.vr_words.specs.Grammar.{Serving}
 use Rattle.vr_files.specs.FileMaps.{FileMap}
 use Rattle.vr_keeper.specs.Keepers.{Row}
 use Rattle.vr_core.specs.History.{BookState}
@@ -32,7 +35,7 @@ use Rattle.vr_cli.specs.Gathering.{Writes}
 use Rattle.vr_cli.specs.Outputs.{NamedFiles, Tested}
 use Rattle.vr_cli.proofs.EndingLemmas.{none_fell, unchanged}
 use Rattle.vr_cli.proofs.FileLemmas.{told_more}
-use Rattle.vr_cli.specs.ServerEndings.{HandsOut, EndsUnstarted, IfBook, IsUnder, KeepsCrashes, IsPastReading, SaysOfBasis, IsCounted, OutsideCounts, outside, ServerCauses, NothingFailed, MayStillCome, IsBeforeListening, IsBeforeStart, IsUnstarted, status_at_end, status_for_start, WritesUpTo, wants_memory, ServesAlone, IsServedAlone}
+use Rattle.vr_cli.specs.ServerEndings.{HandsOut, EndsUnstarted, IfBook, IsUnder, KeepsCrashes, IsPastReading, SaysOfBasis, IsCounted, OutsideCounts, outside, ServerCauses, NothingFailed, MayStillCome, IsBeforeListening, IsBeforeStart, IsUnstarted, status_at_end, status_for_start, WritesUpTo, wants_memory, ServesAlone, ServesListener, IsServedAlone}
 use Rattle.vr_cli.specs.ServerFiles.{AreBothSaid, AreKeys, IsSaid, GivesBasis, EndsReading, HasFileCause, told_of_basis}
 use Rattle.vr_cli.specs.Servings.{Basis}
 use Rattle.vr_cli.specs.declared.kept.Kept.{Kept}
@@ -157,6 +160,11 @@ pub unwritten : (fault : TextFault) → status_for fault ≡ statuses.Ok → ⊥
 unwritten texts.Failed e = cc (e)
 unwritten texts.OutOfMemory e = cc (e)
 
+-- nor with the fault of a listener
+pub unwritten_alone : (fault : TextFault) → status_for fault ≡ ListenFault → ⊥
+unwritten_alone texts.Failed e = cc (e)
+unwritten_alone texts.OutOfMemory e = cc (e)
+
 -- with status 0 all sessions came to their end
 pub hands_all : (attended : Result (Unit {0}) AttendFault) (written : Result (Unit {0}) TextFault) (most_sessions before after : ℕ) → after ≤ before + most_sessions → OnOk attended (after ≡ before + most_sessions)
     → HandsOut (status_at_end attended written) most_sessions before after
@@ -169,16 +177,77 @@ hands_all attended written most_sessions before after most whole = record { most
     by_parts (Err sessions.Failed) (Err fault) whole e = absurd (unwritten fault e)
     by_parts (Err sessions.OutOfMemory) written whole e = absurd (let none : ⊥ = cc (e) in none)
 
--- no entries have numbers
-pub none_numbered : (workers : ℕ) (journal : List Entry) → journal ≡ [] → All (λ entry. entry.seat ≤ workers) journal
-none_numbered workers journal e = rw e (All-nil (λ (entry : Entry). entry.seat ≤ workers))
-
 -- ---- counts
 
 -- a count that rose after it had not fallen
 pub counted_later : (fault status : Status) (before between now : ℕ) → before ≤ between → IsCounted fault status between now → IsCounted fault status before now
 counted_later fault status before between now first h =
     record { later = omega (arith, first, h.later); failed = λ e. let rose : Rose between now = h.failed e in omega (arith, first, rose) }
+
+-- ---- what a listener served
+
+-- nothing is claimed
+pub freely : {A : Type 0} (o : Option A) → IfSome o (λ _. Unit {0})
+freely None = tt
+freely (Some x) = tt
+
+-- with the status of a listener's fault an accept failed
+failed_after : (attended : Result (Unit {0}) AttendFault) (written : Result (Unit {0}) TextFault) → status_at_end attended written ≡ ListenFault → attended ≡ Err sessions.Failed
+failed_after (Err sessions.OutOfMemory) written e = cc (e)
+failed_after (Err sessions.Failed) written e = refl
+failed_after (Ok served) (Ok done) e = cc (e)
+failed_after (Ok served) (Err texts.Failed) e = cc (e)
+failed_after (Ok served) (Err texts.OutOfMemory) e = cc (e)
+
+-- the sessions came to this, and the last lines were written so
+pub listener_after : {K : Type 0} (faults : K → ℕ) (attended : Result (Unit {0}) AttendFault) (written : Result (Unit {0}) TextFault) (keys : Keys) (serving : Serving) (old new : ListenerState) (before : ℕ)
+    (book : BookState K) → IsAttended serving.sessions attended old new → (serving.workers ≡ 1 → All (λ e. e.seat ≡ 1) book.journal)
+    → (serving.workers ≡ 1 → IfSome new.ended (λ list. AttendsAlone keys old.ended list old.handed_out new.handed_out before (faults book.keeper) book.journal attended))
+    → ServesListener faults keys serving (status_at_end attended written) old new before (kept.Book book)
+listener_after faults attended written keys serving old new before book h alone one = record {
+  count = hands_all attended written serving.sessions old.handed_out new.handed_out h.most h.count;
+  served = served_after attended written old.ended new.ended h.served;
+  alone = λ is. alone_after attended written keys old.ended new.ended old.handed_out new.handed_out before (faults book.keeper) book.journal (alone is) (one is);
+  connections = record { later = h.cause.later; failed = λ e. h.cause.failed (failed_after attended written e) };
+}
+
+-- the listener was asked to listen before, and the keeper for its rows
+pub listener_since : {K : Type 0} (faults : K → ℕ) (keys : Keys) (serving : Serving) (status : Status) (old mid new : ListenerState) (before began : ℕ) (book : BookState K)
+    → mid.handed_out ≡ old.handed_out → mid.ended ≡ old.ended → old.faults ≤ mid.faults → before ≤ began → ServesListener faults keys serving status mid new began (kept.Book book)
+    → ServesListener faults keys serving status old new before (kept.Book book)
+listener_since faults keys serving status old mid new before began book handed ended listened loaded h = record {
+  count = rw handed at h.count;
+  served = rw ended at h.served;
+  alone = λ one.
+      let served : IfSome new.ended (λ list. ServesAlone keys status mid.ended list mid.handed_out new.handed_out began (faults book.keeper) book.journal) = h.alone one in
+      alone_since keys status old.ended new.ended old.handed_out new.handed_out before began (faults book.keeper) book.journal loaded (rw (ended, handed) at served);
+  connections = counted_later ListenFault status old.faults mid.faults new.faults listened h.connections;
+}
+
+-- what comes with an error came
+pub failed_here : {T E P : Type 0} (result : Result T E) → is_err result ≡ true → OnErr result P → P
+failed_here (Err fault) failed there = there
+failed_here (Ok value) failed there = absurd (let none : ⊥ = cc (failed) in none)
+
+-- nobody was served from a book
+pub listener_unserved : {K : Type 0} (faults : K → ℕ) (keys : Keys) (serving : Serving) (status : Status) (listener : ListenerState) (book : BookState K) → book.journal ≡ []
+    → (status ≡ statuses.Ok → ⊥) → (status ≡ ListenFault → ⊥) → ServesListener faults keys serving status listener listener (faults book.keeper) (kept.Book book)
+listener_unserved faults keys serving status listener book none undone unfailed = record {
+  count = hands_none status serving.sessions listener.handed_out listener.handed_out refl undone;
+  served = keeps_none listener.ended listener.ended (wants_memory status) refl;
+  alone = λ one. alone_none keys status listener.ended listener.handed_out (faults book.keeper) book.journal none;
+  connections = record { later = omega arith; failed = λ e. absurd (unfailed e) };
+}
+
+-- nor without one
+pub listener_unstarted : {K : Type 0} (faults : K → ℕ) (keys : Keys) (serving : Serving) (status : Status) (old new : ListenerState) (before : ℕ) (keeper : K) → new.handed_out ≡ old.handed_out
+    → new.ended ≡ old.ended → (status ≡ statuses.Ok → ⊥) → IsCounted ListenFault status old.faults new.faults → ServesListener faults keys serving status old new before (kept.Store keeper)
+listener_unstarted faults keys serving status old new before keeper handed ended undone counted = record {
+  count = hands_none status serving.sessions old.handed_out new.handed_out handed undone;
+  served = keeps_none old.ended new.ended (wants_memory status) ended;
+  alone = λ one. freely new.ended;
+  connections = counted;
+}
 
 -- ---- a book that was not started
 
@@ -192,11 +261,6 @@ crashes_kept tells clock may_leave keeper =
 pub book_counted : (status : Status) (old new : Option (List ℕ)) (text : List ℕ) (before now : ℕ) → WritesUpTo status old new text → before ≤ now → IsCounted KeeperFault status before now
 book_counted status old new text before now h later =
     record { later = later; failed = λ e. absurd (subst (λ (s : Status). WritesUpTo s old new text) e h) }
-
--- nothing is claimed
-pub freely : {A : Type 0} (o : Option A) → IfSome o (λ _. Unit {0})
-freely None = tt
-freely (Some x) = tt
 
 -- ---- a server whose files were not read, or were refused
 
@@ -375,6 +439,18 @@ asked_for : (fault : StartFault) → IsBeforeStart (status_for_start fault) → 
 asked_for starts.KeeperFailed k = k
 asked_for (starts.BadRow row) k = k
 asked_for starts.OutOfMemory k = k
+
+-- a book that was not started ends with no status 0
+pub start_undone : (fault : StartFault) → status_for_start fault ≡ statuses.Ok → ⊥
+start_undone starts.KeeperFailed e = cc (e)
+start_undone (starts.BadRow row) e = cc (e)
+start_undone starts.OutOfMemory e = cc (e)
+
+-- and is no fault of a listener
+pub start_counted : (fault : StartFault) (before now : ℕ) → before ≤ now → IsCounted ListenFault (status_for_start fault) before now
+start_counted starts.KeeperFailed before now later = record { later = later; failed = λ e. cc (e) }
+start_counted (starts.BadRow row) before now later = record { later = later; failed = λ e. cc (e) }
+start_counted starts.OutOfMemory before now later = record { later = later; failed = λ e. cc (e) }
 
 pub refused_ends : {K : Type 0} (rows : K → Option FileMap) (listed : K → Option (List Row)) (is_loaded : K → Bool) (fault : StartFault) (listens : Bool) (o : Option (List ℕ)) (before after : K)
     → listens ≡ true → rows after ≡ rows before → listed after ≡ listed before

@@ -5,7 +5,7 @@ use Rattle.std.specs.Str.Parse.{digits_value}
 use Rattle.std.proofs.lemmas.Bool.Decides.{nat_tests}
 use Rattle.vr_cli.specs.declared.status.Status.{Status}
 use Rattle.vr_cli.specs.declared.status.Status.TheVariants.{Usage}
-use Rattle.vr_words.specs.Grammar.{Task, AskFor, IsWrongAt, Item, operand, apart, joined, serve, contains, over_both, place_after, take_file, take_item, take_items, take_operand, takes_two, task_said, Serving, serving}
+use Rattle.vr_words.specs.Grammar.{Task, AskFor, IsWrongAt, Item, operand, apart, attached, serve, contains, over_both, place_after, take_file, take_item, take_items, take_operand, takes_two, task_said, Serving, serving}
 use Rattle.vr_words.specs.Numbers.{number_within}
 use Rattle.vr_words.specs.Options.{Placed, Said, give, is_plain, may_come, nothing_said, take_option}
 use Rattle.vr_words.specs.declared.commands.Verb.{Verb}
@@ -70,7 +70,7 @@ operand_workers verbs.Serve place said word next h k = file_workers verbs.Serve 
 item_workers : (verb : Verb) (place : ℕ) (said : Said) (item : Item) (next : Said) → take_item verb place said item ≡ Some next → HasWorkers said → HasWorkers next
 item_workers verb place said (operand word) next h k = operand_workers verb place said word next (chosen (is_plain word) _ next h).1 k
 item_workers verb place said (apart choice value) next h k = option_workers verb said choice value next h k
-item_workers verb place said (joined choice value) next h k = option_workers verb said choice value next h k
+item_workers verb place said (attached choice value) next h k = option_workers verb said choice value next h k
 
 items_workers : (verb : Verb) (place : ℕ) (said : Said) (items : List Item) (next : Said) → take_items verb place said items ≡ Some next → HasWorkers said → HasWorkers next
 items_workers verb place said [] next h k = let same : said ≡ next = cc in subst HasWorkers same k

@@ -15,9 +15,11 @@ use Rattle.vr_core.specs.declared.opening.StartFault.{StartFault}
 use Rattle.vr_core.specs.declared.opening.StartFault.TheVariants as starts
 use Rattle.vr_face.specs.declared.doors.AttendFault.{AttendFault}
 use Rattle.vr_face.specs.declared.doors.AttendFault.TheVariants as sessions
+use Rattle.vr_face.specs.Porches.{KeepsServed}
 use Rattle.vr_face.specs.declared.keys.Keys.{Keys}
 use Rattle.vr_keeper.specs.Crashes.{LoadKeepsCrashes}
 use Rattle.vr_keeper.specs.Keepers.{Row}
+use Rattle.vr_session.specs.Attendings.{ListenerState}
 use Rattle.vr_session.specs.Workers.{AttendsAlone}
 use Rattle.vr_words.specs.Grammar.{Serving}
 use Rattle.vr_cli.specs.Endings.{NoneFell}
@@ -247,6 +249,15 @@ pub record HandsOut (status : Status) (sessions before after : ℕ) : Type 0 whe
   pub most : after ≤ before + sessions
   pub whole : status ≡ statuses.Ok → after ≡ before + sessions
 
+-- Nobody was served, by the number of connections handed out and the list of those given back, each
+-- before and after.
+pub record IsUnserved (handed_old : ℕ) (ended_old : Option (List EndedLink))
+    (handed_new : ℕ) (ended_new : Option (List EndedLink)) : Type 0 where
+  -- no connection was handed out
+  pub handed_out : handed_new ≡ handed_old
+  -- and none was given back
+  pub ended : ended_new ≡ ended_old
+
 -- whether the status says that memory ran out
 abbrev pub wants_memory : Status → Bool
 wants_memory WantOfMemory = true
@@ -266,7 +277,22 @@ pub record ServesAlone (keys : Keys) (status : Status)
   pub alone : All (λ entry. entry.seat ≡ 1) journal
   pub memory : answer ≡ Err sessions.OutOfMemory → status ≡ WantOfMemory
 
--- The same, by keys that some bytes say under a policy with these ids: those of the keys file, where it is told.
+-- How a server that was to run so served the connections of its listener, by what the listener told
+-- before and after, to the holders of these keys. The count is that of its keeper's faults before.
+pub record ServesListener {K : Type 0} (faults : K → ℕ) (keys : Keys) (serving : Serving)
+    (status : Status) (old new : ListenerState) (before : ℕ) (held : Kept K) : Type 0 where
+  -- no more than so many were handed out, and with status 0 all of them
+  pub count : HandsOut status serving.sessions old.handed_out new.handed_out
+  -- those that were given back are served, as far as the status says
+  pub served : KeepsServed old.ended new.ended (wants_memory status)
+  -- by one worker they were served in order, and the journal has their calls
+  pub alone : serving.workers ≡ 1 → IfSome new.ended (λ list. IfBook held (λ book.
+      ServesAlone keys status old.ended list old.handed_out new.handed_out
+      before (faults book.keeper) book.journal))
+  -- the listener's count of faults didn't fall, and the status is its fault only where it rose
+  pub connections : IsCounted ListenFault status old.faults new.faults
+
+-- One worker served so, by keys that some bytes say under a policy with these ids: those of the keys file, where it is told.
 pub record IsServedAlone (ids : List ℕ) (files : Option NamedFiles)
     (answer : NamedFiles → Tested Basis) (status : Status)
     (old : Option (List EndedLink)) (list : List EndedLink)

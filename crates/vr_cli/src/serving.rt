@@ -1,12 +1,10 @@
-ghost use Rattle.std.specs.List.{All};
-ghost use Rattle.std.specs.Prelude.{◌≡◌, ◌↔◌, ◌≤◌, ◌≢◌, ℕ, [], Ok, Some, length, map, string_bytes, true, IfOk, IfSome, IsOk};
+ghost use Rattle.std.specs.Prelude.{◌≡◌, ◌↔◌, ◌≤◌, ◌≢◌, ℕ, [], Ok, length, map, string_bytes, IfOk, IfSome, IsOk};
 ghost use Rattle.vr_base.specs.Checks.{result_map};
-ghost use Rattle.vr_core.specs.History.{IsBook};
-ghost use Rattle.vr_core.specs.Isolation.{IsIsolatedHistory};
 ghost use Rattle.vr_face.specs.Porches.{KeepsServed};
-ghost use Rattle.vr_words.specs.Grammar.{AskFor, IsWrongAt, Serving, Task, serve};
+ghost use Rattle.vr_session.specs.Attendings.{ComesBack, told};
+ghost use Rattle.vr_words.specs.Grammar.{AskFor, IsWrongAt, Task};
 ghost use Rattle.vr_words.specs.Views.{placed, serving_of};
-ghost use Rattle.vr_cli.specs.ServerEndings.{ComesAfter, EndsStarted, EndsUnstarted, HandsOut, IfBook, IfStore, IsPastReading, IsBeforeListening, KeepsCrashes, MayStillCome, IsCounted, IsServedAlone, IsUnder, NothingFailed, SaysOfBasis, ServerCauses, ServesAlone, WritesUpTo, kept_keeper, outside, status_at_end, status_for_start, wants_memory};
+ghost use Rattle.vr_cli.specs.ServerEndings.{ComesAfter, EndsStarted, EndsUnstarted, HandsOut, IfBook, IfStore, IsBeforeListening, IsCounted, IsPastReading, IsServedAlone, IsUnder, IsUnserved, KeepsCrashes, MayStillCome, NothingFailed, SaysOfBasis, ServerCauses, ServesListener, WritesUpTo, kept_keeper, outside, status_at_end, status_for_start, wants_memory};
 ghost use Rattle.vr_cli.specs.FileWords.{IfAbsent, IsFileOf, IsPlaceOf, NamesFile};
 ghost use Rattle.vr_cli.specs.ServerFiles.{IsSaid};
 ghost use Rattle.vr_policy_check.specs.Rules.{identity_ids};
@@ -117,24 +115,15 @@ where
     L::Conn: Send,
     requires fresh { book.journal ≡ [] }
     requires workers { (1 ≤ serving.workers) × (serving.workers ≤ 16) }
-    ensures origin { result.2.origin ≡ book.origin }
-    ensures legal { IsBook K.rows K.is_loaded result.2 }
-    ensures isolated { IsIsolatedHistory result.2.origin result.2.journal }
-    ensures numbered { All (λ entry. entry.seat ≤ serving.entry.workers) result.2.journal }
+    ensures book { ComesBack K.rows K.is_loaded K.faults serving.entry.workers book result.2 }
     ensures writes { WritesUpTo result.0 (O.written out.old) (O.written out.new)
         (last_lines (length result.2.journal) result.2.files) }
     ensures listens { L.listens result.1 ≡ L.listens listener }
-    ensures count { HandsOut result.0 serving.entry.sessions
-        (L.handed_out listener) (L.handed_out result.1) }
-    ensures served { KeepsServed (L.ended listener) (L.ended result.1) (wants_memory result.0) }
-    ensures alone { serving.entry.workers ≡ 1 → IfSome (L.ended result.1) (λ list.
-        ServesAlone keys.now result.0 (L.ended listener) list
-        (L.handed_out listener) (L.handed_out result.1)
-        (K.faults book.keeper) (K.faults result.2.keeper) result.2.journal) }
-    ensures connections { IsCounted Status.ListenFault result.0
-        (L.faults listener) (L.faults result.1) }
+    ensures listener { ServesListener K.faults keys.now (serving_of serving.entry) result.0
+        (told (L.listens listener) (L.handed_out listener) (L.ended listener) (L.faults listener))
+        (told (L.listens result.1) (L.handed_out result.1) (L.ended result.1) (L.faults result.1))
+        (K.faults book.keeper) (Kept.Book result.2) }
     ensures text { IsCounted Status.WriteFault result.0 (O.faults out.old) (O.faults out.new) }
-    ensures keeper { K.faults book.keeper ≤ K.faults result.2.keeper }
 {
     let Serving {
         workers,
@@ -171,27 +160,19 @@ where
     requires fresh { book.journal ≡ [] }
     requires digits { book.origin.hash ≡ hash.now }
     requires workers { (1 ≤ serving.workers) × (serving.workers ≤ 16) }
-    ensures origin { result.2.origin ≡ book.origin }
-    ensures legal { IsBook K.rows K.is_loaded result.2 }
-    ensures isolated { IsIsolatedHistory result.2.origin result.2.journal }
-    ensures numbered { All (λ entry. entry.seat ≤ serving.entry.workers) result.2.journal }
+    ensures book { ComesBack K.rows K.is_loaded K.faults serving.entry.workers book result.2 }
     ensures writes { WritesUpTo result.0 (O.written out.old) (O.written out.new)
         (server_text serving.entry.port result.2) }
     ensures first { ComesAfter (O.written out.old) (O.written out.new)
         (first_lines result.2.origin.hash serving.entry.port)
-        ((L.handed_out result.1 ≡ L.handed_out listener) × (L.ended result.1 ≡ L.ended listener)) }
+        (IsUnserved (L.handed_out listener) (L.ended listener)
+        (L.handed_out result.1) (L.ended result.1)) }
     ensures listens { L.listens result.1 ≡ L.listens listener }
-    ensures count { HandsOut result.0 serving.entry.sessions
-        (L.handed_out listener) (L.handed_out result.1) }
-    ensures served { KeepsServed (L.ended listener) (L.ended result.1) (wants_memory result.0) }
-    ensures alone { serving.entry.workers ≡ 1 → IfSome (L.ended result.1) (λ list.
-        ServesAlone keys.now result.0 (L.ended listener) list
-        (L.handed_out listener) (L.handed_out result.1)
-        (K.faults book.keeper) (K.faults result.2.keeper) result.2.journal) }
-    ensures connections { IsCounted Status.ListenFault result.0
-        (L.faults listener) (L.faults result.1) }
+    ensures listener { ServesListener K.faults keys.now (serving_of serving.entry) result.0
+        (told (L.listens listener) (L.handed_out listener) (L.ended listener) (L.faults listener))
+        (told (L.listens result.1) (L.handed_out result.1) (L.ended result.1) (L.faults result.1))
+        (K.faults book.keeper) (Kept.Book result.2) }
     ensures text { IsCounted Status.WriteFault result.0 (O.faults out.old) (O.faults out.new) }
-    ensures keeper { K.faults book.keeper ≤ K.faults result.2.keeper }
 {
     let _started = book.journal();
     match write_first_lines(alloc, hash, serving.port, out) {
@@ -231,21 +212,16 @@ where
         (O.written out.old) (O.written out.new) keeper) }
     ensures under { IfBook result.2 (λ book.
         (book.origin.policy ≡ policy) × (book.origin.hash ≡ hash)) }
-    ensures unserved { IfStore result.2 (λ _. (L.handed_out result.1 ≡ L.handed_out listener)
-        × (L.ended result.1 ≡ L.ended listener)) }
+    ensures unserved { IfStore result.2 (λ _. IsUnserved
+        (L.handed_out listener) (L.ended listener) (L.handed_out result.1) (L.ended result.1)) }
     ensures first { IfBook result.2 (λ book. ComesAfter (O.written out.old) (O.written out.new)
         (first_lines book.origin.hash serving.entry.port)
-        ((L.handed_out result.1 ≡ L.handed_out listener)
-        × (L.ended result.1 ≡ L.ended listener))) }
-    ensures count { HandsOut result.0 serving.entry.sessions
-        (L.handed_out listener) (L.handed_out result.1) }
-    ensures served { KeepsServed (L.ended listener) (L.ended result.1) (wants_memory result.0) }
-    ensures alone { serving.entry.workers ≡ 1 → IfSome (L.ended result.1) (λ list.
-        IfBook result.2 (λ book. ServesAlone keys.now result.0 (L.ended listener) list
-        (L.handed_out listener) (L.handed_out result.1)
-        (K.faults keeper) (K.faults book.keeper) book.journal)) }
-    ensures connections { IsCounted Status.ListenFault result.0
-        (L.faults listener) (L.faults result.1) }
+        (IsUnserved (L.handed_out listener) (L.ended listener)
+        (L.handed_out result.1) (L.ended result.1))) }
+    ensures listener { ServesListener K.faults keys.now (serving_of serving.entry) result.0
+        (told (L.listens listener) (L.handed_out listener) (L.ended listener) (L.faults listener))
+        (told (L.listens result.1) (L.handed_out result.1) (L.ended result.1) (L.faults result.1))
+        (K.faults keeper) result.2 }
     ensures text { IsCounted Status.WriteFault result.0 (O.faults out.old) (O.faults out.new) }
     ensures keeper { IsCounted Status.KeeperFault result.0
         (K.faults keeper) (K.faults (kept_keeper result.2)) }
@@ -307,12 +283,12 @@ where
     ensures under { IfSome (F.files folder.old) (λ files. IfBook result.2 (IsUnder
         (basis_over (placed asked.entry.policy) (placed asked.entry.keys) files))) }
     ensures said { IfBook result.2 (λ book. IsSaid (book.origin.policy, book.origin.hash)) }
-    ensures unserved { IfStore result.2 (λ _. (L.handed_out result.1 ≡ L.handed_out listener)
-        × (L.ended result.1 ≡ L.ended listener)) }
+    ensures unserved { IfStore result.2 (λ _. IsUnserved
+        (L.handed_out listener) (L.ended listener) (L.handed_out result.1) (L.ended result.1)) }
     ensures first { IfBook result.2 (λ book. ComesAfter (O.written out.old) (O.written out.new)
         (first_lines book.origin.hash asked.entry.serving.port)
-        ((L.handed_out result.1 ≡ L.handed_out listener)
-        × (L.ended result.1 ≡ L.ended listener))) }
+        (IsUnserved (L.handed_out listener) (L.ended listener)
+        (L.handed_out result.1) (L.ended result.1))) }
     ensures count { HandsOut result.0 asked.entry.serving.sessions
         (L.handed_out listener) (L.handed_out result.1) }
     ensures served { KeepsServed (L.ended listener) (L.ended result.1) (wants_memory result.0) }
@@ -416,13 +392,13 @@ where
 
     // The connections: none without a book, and none before the first lines; their number, how each was served, and, with
     // one worker, that the journal is of their calls alone.
-    ensures unserved { IfStore result.2 (λ _. (L.handed_out result.1 ≡ L.handed_out listener)
-        × (L.ended result.1 ≡ L.ended listener)) }
+    ensures unserved { IfStore result.2 (λ _. IsUnserved
+        (L.handed_out listener) (L.ended listener) (L.handed_out result.1) (L.ended result.1)) }
     ensures first { WhereAsked (map string_bytes words.now) (λ serving _ _.
         IfBook result.2 (λ book. ComesAfter (O.written out.old) (O.written out.new)
         (first_lines book.origin.hash serving.port)
-        ((L.handed_out result.1 ≡ L.handed_out listener)
-        × (L.ended result.1 ≡ L.ended listener)))) }
+        (IsUnserved (L.handed_out listener) (L.ended listener)
+        (L.handed_out result.1) (L.ended result.1)))) }
     ensures count { WhereAsked (map string_bytes words.now) (λ serving _ _.
         HandsOut result.0 serving.sessions (L.handed_out listener) (L.handed_out result.1)) }
     ensures served { KeepsServed (L.ended listener) (L.ended result.1) (wants_memory result.0) }

@@ -71,7 +71,7 @@ pub returns-in-Err-clause-unheard : goal.returns-in-Err-clause-unheard
 returns-in-Err-clause-unheard g c before = (refl, refl)
 
 pub returns-in-Err-clause-unserved : goal.returns-in-Err-clause-unserved
-returns-in-Err-clause-unserved g c = (refl, refl)
+returns-in-Err-clause-unserved g c = record { handed_out = refl; ended = refl }
 
 pub returns-in-Ok-clause-word : goal.returns-in-Ok-clause-word
 returns-in-Ok-clause-word g c =

@@ -10,7 +10,7 @@ pub returns-in-Ok-clause-says : goal.returns-in-Ok-clause-says
 returns-in-Ok-clause-says g c = read_says _ _ c.in-Ok.basis.0 c.in-Ok.basis.1 c.in-Ok.basis.2 c.in-Ok.ensures.told c.open.result.0 c.open.ensures.begun
 
 pub returns-in-Ok-clause-causes : goal.returns-in-Ok-clause-causes
-returns-in-Ok-clause-causes g c = begun_causes c.open.result.0 c.open.ensures.begun _ _ _ c.in-Ok.ensures.cause c.open.ensures.text c.open.ensures.connections c.open.ensures.keeper
+returns-in-Ok-clause-causes g c = begun_causes c.open.result.0 c.open.ensures.begun _ _ _ c.in-Ok.ensures.cause c.open.ensures.text c.open.ensures.listener.connections c.open.ensures.keeper
 
 pub returns-in-Ok-clause-unheard : goal.returns-in-Ok-clause-unheard
 returns-in-Ok-clause-unheard g c = begun_heard c.open.result.0 c.open.ensures.begun
@@ -20,7 +20,7 @@ returns-in-Ok-clause-under g c = read_under _ _ c.in-Ok.basis.0 c.in-Ok.basis.1 
 
 pub returns-in-Ok-clause-alone : goal.returns-in-Ok-clause-alone
 returns-in-Ok-clause-alone g c one =
-    read_alone _ _ c.in-Ok.basis.0 c.in-Ok.basis.1 c.in-Ok.basis.2 c.in-Ok.ensures.told g.K.Keeper.faults c.open.result.2 c.open.result.0 _ _ _ _ _ c.in-Ok.ensures.said c.open.ensures.under (c.open.ensures.alone one)
+    read_alone _ _ c.in-Ok.basis.0 c.in-Ok.basis.1 c.in-Ok.basis.2 c.in-Ok.ensures.told g.K.Keeper.faults c.open.result.2 c.open.result.0 _ _ _ _ _ c.in-Ok.ensures.said c.open.ensures.under (c.open.ensures.listener.alone one)
 
 pub returns-in-Err-clause-asked : goal.returns-in-Err-clause-asked
 returns-in-Err-clause-asked g c = unread_asked c.in-Err.status _ _ c.in-Err.ensures.cause.counted
@@ -53,7 +53,7 @@ pub returns-in-Err-clause-unheard : goal.returns-in-Err-clause-unheard
 returns-in-Err-clause-unheard g c before = (refl, refl)
 
 pub returns-in-Err-clause-unserved : goal.returns-in-Err-clause-unserved
-returns-in-Err-clause-unserved g c = (refl, refl)
+returns-in-Err-clause-unserved g c = record { handed_out = refl; ended = refl }
 
 pub returns-in-Ok-clause-word : goal.returns-in-Ok-clause-word
 returns-in-Ok-clause-word g c = begun_blames_none c.open.result.0 _ c.open.ensures.begun

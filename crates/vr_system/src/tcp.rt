@@ -1,5 +1,5 @@
 ghost use Rattle.std.specs.Prelude.{◌≤◌, length, IfSome};
-ghost use Rattle.vr_base.specs.Outside.{Takes};
+ghost use Rattle.vr_base.specs.Outside.{TakesPart};
 
 use std::alloc::Global;
 use std::io::{Error, ErrorKind, Read, Result as IoResult, Write};
@@ -127,7 +127,7 @@ fn read_some(stream: &mut TcpStream, into: &mut [u8]) -> Option<usize>
 /// How many bytes were taken, at least one where there are any, or that the write failed. A write
 /// that took nothing within its second, or that a signal cut off, is made again.
 fn write_some(stream: &mut TcpStream, piece: &[u8]) -> Option<usize>
-    ensures { IfSome result (λ count. Takes count (length piece.now)) }
+    ensures { IfSome result (λ count. TakesPart count (length piece.now)) }
 {
     for _ in 0..PATIENCE {
         match stream.write(piece) {
@@ -166,7 +166,7 @@ impl State {
     }
 
     fn write(&mut self, piece: &[u8]) -> Option<usize>
-        ensures { IfSome result (λ count. Takes count (length piece.now)) }
+        ensures { IfSome result (λ count. TakesPart count (length piece.now)) }
     {
         match self {
             State::Open(stream) => write_some(stream, piece),

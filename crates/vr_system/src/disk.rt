@@ -1,5 +1,5 @@
 ghost use Rattle.std.specs.Prelude.{◌≡◌, ◌≤◌, IfOk, IfSome, length, vec_len};
-ghost use Rattle.vr_base.specs.Outside.{Takes};
+ghost use Rattle.vr_base.specs.Outside.{TakesPart};
 
 use std::alloc::Global;
 use std::io::{ErrorKind, Read, Write};
@@ -84,7 +84,7 @@ impl<R: Print + Drop> StdSink<R> {
 
 /// How many bytes of the piece were written, at least one where there are any, or none where the write failed.
 fn write_prefix<R: Print>(rt: &R, piece: &[u8]) -> Option<usize>
-    ensures { IfSome result (λ count. Takes count (length piece.now)) }
+    ensures { IfSome result (λ count. TakesPart count (length piece.now)) }
 {
     let count = io::writer(rt).write(piece).ok()?;
     if count == 0 && !piece.is_empty() {
